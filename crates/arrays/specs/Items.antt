@@ -1,0 +1,16 @@
+-- What an `ArrayVec` holds, and changes that may be refused. Assumes nothing.
+use mathlib.Core.Path.{_≡_}
+use mathlib.Core.Bool.{Bool, cond}
+use mathlib.Core.List.{List}
+use Prim.Native.Nat.{ℕ}
+use lib.ListN.{take}
+use Rattle.arrays.specs.declared.ArrayVec.{ArrayVec}
+
+-- the elements, first to last
+abbrev pub items : {T : Type 0} {n : ℕ} → ArrayVec T n → List T
+items v = take (v .len) (v .slots)
+
+-- a change from `before` to `next` that is made exactly where it is allowed; refused, it leaves `before`
+pub record Allowed {X : Type 0} (allowed : Bool) (before next after : X) (r : Bool) : Type 0 where
+  pub answer : r ≡ allowed
+  pub left : after ≡ cond allowed next before
