@@ -5,6 +5,8 @@ ghost use mathlib.Core.List.{[], _∷_, _++_};
 ghost use Prim.Native.Nat.{_-_};
 ghost use lib.Dec.{ltb, leb};
 ghost use lib.ListN.{length, take, set, getD};
+ghost use Rattle.std.specs.Options.{mapped};
+ghost use Rattle.std.specs.declared.option.Option.the-variants.{Some, None};
 ghost use Rattle.std.specs.Holes.{inserted, removed, swapped};
 ghost use Rattle.arrays.specs.Items.{items, Allowed};
 use super::ArrayVec;
@@ -44,6 +46,27 @@ impl<T: Copy, const N: usize> ArrayVec<T, N> {
         } else {
             false
         }
+    }
+
+    // Elements more, last, where there is room for all of them; else none.
+    pub fn append(&mut self, more: &[T]) -> bool
+        ensures { λ r. ⌜ Allowed (leb (length (now (more .entry))) (N - length (items (now (self .entry))))) (items (now (self .entry))) (items (now (self .entry)) ++ now (more .entry)) (items (now (self .exit))) r ⌝ }
+    {
+        if more.len() > N - self.len {
+            return false;
+        }
+        for x in more {
+            self.push(*x);
+        }
+        true
+    }
+
+    // A vector of the given elements, where there is room for them.
+    pub fn from_slice(filler: T, from: &[T]) -> Option<Self>
+        ensures { λ r. ⌜ mapped items r ≡ cond (leb (length (now (from .entry))) N) (Some (now (from .entry))) None ⌝ }
+    {
+        let mut vec = ArrayVec::new(filler);
+        if vec.append(from) { Some(vec) } else { None }
     }
 
     // Writes over the element at a place.

@@ -1,5 +1,6 @@
 -- The number and the layer of each refusal, and the answer of a call that may be refused. Assumes nothing.
-use mathlib.Core.Bool.{Bool, true, false}
+use mathlib.Core.Path.{_≡_}
+use mathlib.Core.Bool.{Bool, true, false, cond}
 use mathlib.Core.List.{List}
 use Prim.Native.Nat.{ℕ}
 use lib.Chars.{codes}
@@ -54,3 +55,13 @@ wordOf Printer = codes "printer"
 abbrev pub answered : {A : Type 0} → Bool → A → Refusal → Result A Refusal
 answered true a f = Ok a
 answered false a f = Err f
+
+-- an answer, by what the value in it means
+abbrev pub meant : {A M : Type 0} → (A → M) → Result A Refusal → Result M Refusal
+meant means (Ok a) = Ok (means a)
+meant means (Err f) = Err f
+
+-- a change from `before` to `next` that is made exactly where it is allowed; else it is refused with f, and `before` stays
+pub record Guarded {X : Type 0} (allowed : Bool) (before next after : X) (f : Refusal) (r : Result (Unit {0}) Refusal) : Type 0 where
+  pub answer : r ≡ answered allowed tt f
+  pub left : after ≡ cond allowed next before

@@ -1,0 +1,3 @@
+pub mod NameBytes
+pub mod KeyOrder
+pub mod KeyMeans

@@ -1,0 +1,3 @@
+// Names of variables, and keys with their order.
+pub mod key;
+pub mod name;

@@ -1,0 +1,4 @@
+pub mod Orders
+pub mod Names
+pub mod Made
+pub mod WordMeans

@@ -1,0 +1,4 @@
+// Values: lists of elements, each with a number, a text or both.
+pub mod element;
+pub mod text;
+pub mod value;
