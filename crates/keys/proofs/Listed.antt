@@ -4,28 +4,23 @@ use mathlib.Core.Bool.{Bool, true, false, _||_}
 use mathlib.Core.List.{List, [], _∷_, map}
 use Prim.Native.Nat.{ℕ, zero, suc, _<_}
 use native.Mathlib.Omega.{arith}
-use lib.Dec.{eqb}
 use lib.ListN.{length, getD, take, drop}
 use Rattle.std.specs.declared.cmp.Ordering.the-variants.{Less}
 use Rattle.std.specs.Orderings.{isLt}
-use Rattle.std.proofs.shelf.Tests.{and-parts, and-from, or-left, or-right, or-from, eqb-true, eq-eqb, cases-bool}
+use Rattle.std.proofs.shelf.Tests.{and-parts, or-left, or-right, or-from, cases-bool}
 use mathlib.Core.Logic.{⊎-elim}
 use Rattle.order.specs.Made.{bytesOrder}
 use Rattle.order.specs.Orders.{above, below}
 use Rattle.order.proofs.Sorting.{lt-is, flip-less}
-use Rattle.keys.specs.NameBytes.{sameBytes, oneOf}
+use Rattle.std.specs.shelf.Text.{sameBytes}
+use Rattle.std.proofs.shelf.Equals.{sameBytes-decides}
+use Rattle.keys.specs.NameBytes.{oneOf}
 
-pub same-bytes : (xs : List ℕ) → sameBytes xs xs ≡ true
-same-bytes [] = refl
-same-bytes (x ∷ xs) = and-from _ _ (eq-eqb x x refl) (same-bytes xs)
+same-bytes : (xs : List ℕ) → sameBytes xs xs ≡ true
+same-bytes xs = sameBytes-decides xs xs .1 refl
 
-pub bytes-same : (xs ys : List ℕ) → sameBytes xs ys ≡ true → xs ≡ ys
-bytes-same [] [] h = refl
-bytes-same [] (y ∷ ys) h = cc
-bytes-same (x ∷ xs) [] h = cc
-bytes-same (x ∷ xs) (y ∷ ys) h =
-    let p = and-parts (eqb x y) (sameBytes xs ys) h in
-    λ i. eqb-true x y (p .0) i ∷ bytes-same xs ys (p .1) i
+bytes-same : (xs ys : List ℕ) → sameBytes xs ys ≡ true → xs ≡ ys
+bytes-same xs ys h = sameBytes-decides xs ys .0 h
 
 -- words in order that differ
 apart : (xs ys : List ℕ) → bytesOrder .rank xs ys ≡ Less → sameBytes xs ys ≡ false

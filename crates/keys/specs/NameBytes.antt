@@ -5,6 +5,7 @@ use Prim.Native.Nat.{ℕ}
 use lib.Chars.{codes}
 use lib.Dec.{eqb, leb}
 use lib.ListN.{length}
+use Rattle.std.specs.shelf.Text.{sameBytes}
 
 abbrev pub between : ℕ → ℕ → ℕ → Bool
 between low high b = leb low b && leb b high
@@ -27,12 +28,6 @@ nameByte b = letter b || (digit b || (eqb b 95 || eqb b 46))
 abbrev pub allNameBytes : List ℕ → Bool
 allNameBytes [] = true
 allNameBytes (b ∷ bs) = nameByte b && allNameBytes bs
-
-abbrev pub sameBytes : List ℕ → List ℕ → Bool
-sameBytes [] [] = true
-sameBytes [] (y ∷ ys) = false
-sameBytes (x ∷ xs) [] = false
-sameBytes (x ∷ xs) (y ∷ ys) = eqb x y && sameBytes xs ys
 
 -- the words of instructions
 abbrev pub reservedWords : List (List ℕ)

@@ -2,11 +2,12 @@
 use mathlib.Core.Path.{_≡_, sym, ap, _∙_}
 use mathlib.Core.Bool.{Bool, true, false, cond}
 use mathlib.Core.List.{List, _++_, map}
-use Prim.Native.Nat.{ℕ, _+_, _-_, _≤_}
+use Prim.Native.Nat.{ℕ, _+_, _-_, _≤_, _<_}
+use native.Mathlib.Omega.{arith}
 use lib.Dec.{leb}
 use lib.ListN.{length, length-append, length-map}
 use Rattle.std.proofs.shelf.Lists.{map-append}
-use Rattle.std.specs.declared.result.Result.the-variants.{Ok, Err}
+use Rattle.std.proofs.shelf.Tests.{leb-true, leb-false, cond-true}
 use Rattle.arrays.specs.Items.{Allowed}
 use Rattle.printer.proofs.Steps.{leb-shift}
 use Rattle.refusals.specs.Refusals.{answered, Guarded}
@@ -32,3 +33,17 @@ room-behind f n xs ys zs h e =
 
 pub map-behind : {X Y : Type 0} (f : X → Y) (xs ys zs : List X) → zs ≡ ys → map f (xs ++ zs) ≡ map f xs ++ map f ys
 map-behind f xs ys zs e = map-append f xs zs ∙ ap (λ t. map f xs ++ map f t) e
+
+-- bytes that were added, or found no room
+module _ {X : Type 0} (n : ℕ) (before piece after x : List X) (within : length before ≤ n) (is : piece ≡ x) where
+  pub added : Allowed (leb (length piece) (n - length before)) before (before ++ piece) after true → (after ≡ before ++ x) × (length (before ++ x) ≤ n)
+  added h =
+      let fits : length piece ≤ n - length before = leb-true _ _ (sym (h .answer)) in
+      let long = ap length is in
+      (h .left ∙ cond-true _ _ _ (sym (h .answer)) ∙ ap (λ t. before ++ t) is, simp length-append (omega arith))
+
+  pub no-room : Allowed (leb (length piece) (n - length before)) before (before ++ piece) after false → n < length (before ++ x)
+  no-room h =
+      let more : n - length before < length piece = leb-false _ _ (sym (h .answer)) in
+      let long = ap length is in
+      simp length-append (omega arith)

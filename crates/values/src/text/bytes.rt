@@ -2,6 +2,7 @@
 ghost use mathlib.Core.Path.{_≡_};
 ghost use lib.Dec.{leb};
 ghost use lib.ListN.{length};
+ghost use Rattle.arrays.specs.Items.{items};
 ghost use Rattle.refusals.specs.Refusals.{answered, meant};
 ghost use Rattle.refusals.specs.declared.Refusal.the-variants.{TextTooLong};
 ghost use Rattle.values.specs.Means.{textMeans};
@@ -18,6 +19,13 @@ impl Text {
             Some(bytes) => Ok(Text { bytes }),
             None => Err(Refusal::TextTooLong),
         }
+    }
+
+    // The text of the bytes in a vector.
+    pub fn from_vec(bytes: ArrayVec<u8, 32>) -> Text
+        ensures { λ r. ⌜ textMeans r ≡ items bytes ⌝ }
+    {
+        Text { bytes }
     }
 
     pub fn as_bytes(&self) -> &[u8]
