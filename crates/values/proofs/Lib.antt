@@ -1,3 +1,4 @@
 pub mod Changes
 pub mod Spelled
 pub mod Commas
+pub mod Digits
