@@ -2,6 +2,7 @@
 pub mod element;
 pub mod form;
 pub mod given;
+pub mod judge;
 pub mod number;
 pub mod text;
 pub mod value;
