@@ -92,7 +92,7 @@ impl<T: Copy, const N: usize> ArrayVec<T, N> {
             self.slots[i + 1] = self.slots[i];
         }
         self.slots[at] = x;
-        self.len += 1;
+        self.len = self.len + 1;
         true
     }
 

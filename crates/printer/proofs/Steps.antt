@@ -15,34 +15,15 @@ use Rattle.std.proofs.shelf.Tests.{cond-true, cond-false, ltb-true, ltb-false, 
 use Rattle.refusals.specs.Refusals.{answered}
 use Rattle.refusals.specs.declared.Refusal.{Refusal}
 use Rattle.refusals.specs.declared.Refusal.the-variants.{PaperFull}
+use Rattle.refusals.proofs.Answered.{answered-ok, answered-err, leb-shift}
 use Rattle.printer.specs.declared.Printer as printer
 use Rattle.printer.specs.Printing.{room, Prints}
-
--- the answers of a test
-pub answered-ok : {A : Type 0} (b : Bool) (a x : A) (f : Refusal) → answered b a f ≡ Ok x → b ≡ true
-answered-ok true a x f e = refl
-answered-ok false a x f e = cc
-
-pub answered-err : {A : Type 0} (b : Bool) (a : A) (f g : Refusal) → answered b a f ≡ Err g → (b ≡ false) × (g ≡ f)
-answered-err true a f g e = let z : _≡_ {A = ℕ} 0 1 = cc in absurd (omega arith)
-answered-err false a f g e = (refl, cc)
 
 -- what finds room of two pieces
 pub take-both : {X : Type 0} (n : ℕ) (xs ys : List X) → length xs ≤ n → take n (xs ++ ys) ≡ xs ++ take (n - length xs) ys
 take-both n [] ys h = ap (λ m. take m ys) (let z : n ≡ n - 0 = omega arith in z)
 take-both zero (x ∷ xs) ys h = absurd (omega arith)
 take-both (suc n) (x ∷ xs) ys h = ap (λ t. x ∷ t) (take-both n xs ys (omega arith) ∙ ap (λ m. xs ++ take m ys) (let z : n - length xs ≡ suc n - suc (length xs) = omega arith in z))
-
--- the answer that a `?` hands on
-pub handed-on : {A : Type 0} (f : Refusal) (r : Result A Refusal) → ErrBy r (λ y. y ≡ f) → r ≡ Err f
-handed-on f (Ok x) h = absurd h
-handed-on f (Err y) h = ap Err h
-
-pub leb-shift : (a b n : ℕ) → b ≤ n → leb a (n - b) ≡ leb (b + a) n
-leb-shift a b n h = ⊎-elim
-    (λ e. let l = leb-true a (n - b) e in e ∙ sym (le-leb (b + a) n (omega arith)))
-    (λ e. let l = leb-false a (n - b) e in e ∙ sym (lt-leb (b + a) n (omega arith)))
-    (cases-bool (leb a (n - b)))
 
 module _ {P : Type 0} (p : printer.Ghosts P) where
   -- the same print, of equal bytes and with an equal answer

@@ -9,7 +9,7 @@ use lib.ListN.{length, length-append, length-map}
 use Rattle.std.proofs.shelf.Lists.{map-append}
 use Rattle.std.proofs.shelf.Tests.{leb-true, leb-false, cond-true}
 use Rattle.arrays.specs.Items.{Allowed}
-use Rattle.printer.proofs.Steps.{leb-shift}
+use Rattle.refusals.proofs.Answered.{leb-shift}
 use Rattle.refusals.specs.Refusals.{answered, Guarded}
 use Rattle.refusals.specs.declared.Refusal.{Refusal}
 

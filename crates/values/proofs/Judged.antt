@@ -14,23 +14,9 @@ use Rattle.std.proofs.shelf.Tests.{and-from, and-left, and-right, le-leb, lt-le
 use Rattle.refusals.specs.Refusals.{answered, meant, Guarded}
 use Rattle.refusals.specs.declared.Refusal.{Refusal}
 use Rattle.refusals.specs.declared.Refusal.the-variants.{BadValue}
-use Rattle.printer.proofs.Steps.{answered-ok, answered-err, handed-on}
 use Rattle.values.specs.declared.given.Given.{Given}
 use Rattle.values.specs.Forms.{Elem}
 use Rattle.values.specs.Given.{lawfulElement, elementOf, lawfulElements, lawfulValue, elementsOf}
-
--- what was answered
-pub done : {A : Type 0} (b : Bool) (a x : A) (f : Refusal) → Ok x ≡ answered b a f → (b ≡ true) × (x ≡ a)
-done true a x f e = (refl, cc)
-done false a x f e = let z : _≡_ {A = ℕ} 0 1 = cc in absurd (omega arith)
-
-pub not-done : (b : Bool) (f : Refusal) (r : Result (Unit {0}) Refusal) → r ≡ answered b tt f → isErr r ≡ true → b ≡ false
-not-done true f r e h = let s = sym h ∙ ap isErr e in cc
-not-done false f r e h = refl
-
-pub done-unit : (b : Bool) (f : Refusal) (r : Result (Unit {0}) Refusal) → r ≡ answered b tt f → isErr r ≡ false → b ≡ true
-done-unit true f r e h = refl
-done-unit false f r e h = let s = sym h ∙ ap isErr e in cc
 
 module _ (gs : List Given) (i : ℕ) (d : Given) (within : i < length gs) where
   step : lawfulElements (drop i gs) ≡ (lawfulElement (getD gs i d .number) (getD gs i d .text) && lawfulElements (drop (i + 1) gs))

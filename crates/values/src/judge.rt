@@ -21,10 +21,12 @@ pub fn judge_element(given: &Given) -> Result<Element, Refusal>
         };
     };
     match Text::new(bytes) {
-        Ok(text) => Ok(match given.number {
-            Some(n) => Element::Both(n, text),
-            None => Element::Text(text),
-        }),
+        Ok(text) => Ok(
+            match given.number {
+                Some(n) => Element::Both(n, text),
+                None => Element::Text(text),
+            },
+        ),
         Err(_) => Err(Refusal::BadValue),
     }
 }

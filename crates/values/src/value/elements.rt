@@ -6,8 +6,8 @@ ghost use lib.ListN.{length};
 ghost use Rattle.refusals.specs.Refusals.{Guarded};
 ghost use Rattle.refusals.specs.declared.Refusal.the-variants.{TooManyElements};
 ghost use Rattle.values.specs.Means.{elementMeans, valueMeans};
-use super::Value;
 use super::super::element::Element;
+use super::Value;
 use arrays::ArrayVec;
 use refusals::Refusal;
 

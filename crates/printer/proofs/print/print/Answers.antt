@@ -5,8 +5,9 @@ use native.Mathlib.Omega.{arith}
 use lib.ListN.{take, drop, getD, take-append-drop}
 use Rattle.std.specs.declared.result.Result.the-variants.{Ok, Err}
 use Rattle.std.proofs.shelf.Lists.{take-more, take-all}
+use Rattle.refusals.proofs.Answered.{handed-on}
 use Rattle.printer.specs.Printing.{Prints}
-use Rattle.printer.proofs.Steps.{prints-as, prints-none, prints-byte, prints-then, prints-stop, handed-on}
+use Rattle.printer.proofs.Steps.{prints-as, prints-none, prints-byte, prints-then, prints-stop}
 use Rattle.printer.proofs.print.print.Needs as need
 
 pub loop-b-holds : need.loop-b-holds

@@ -5,10 +5,10 @@ use Rattle.std.specs.declared.option.Option.the-variants.{None}
 use Rattle.std.specs.declared.result.Result.the-variants.{Err}
 use Rattle.refusals.specs.Refusals.{answered, meant}
 use Rattle.refusals.specs.declared.Refusal.the-variants.{BadValue}
-use Rattle.printer.proofs.Steps.{answered-err, handed-on}
+use Rattle.refusals.proofs.Answered.{answered-err, handed-on, done, not-done, done-unit}
 use Rattle.values.specs.Given.{elementsOf}
 use Rattle.values.specs.Means.{valueMeans, elementMeans}
-use Rattle.values.proofs.Judged.{done, not-done, done-unit, refused-element, seventeenth, next-element, one-more, all-elements}
+use Rattle.values.proofs.Judged.{refused-element, seventeenth, next-element, one-more, all-elements}
 use Rattle.values.proofs.judge.judge_value.Needs as need
 
 pub loop-g-holds : need.loop-g-holds
