@@ -1,0 +1,5 @@
+pub mod Cuts
+pub mod Cut
+pub mod Lines
+pub mod Printed
+pub mod Filed

@@ -1,0 +1,137 @@
+// The line layer over any printer: it holds up to 32 bytes, and hands them down at the end of a line, when it is full and on settling.
+ghost use mathlib.Core.Path.{_≡_};
+ghost use mathlib.Core.Bool.{true, cond};
+ghost use mathlib.Core.List.{[], _∷_, _++_};
+ghost use Prim.Native.Nat.{_<_};
+ghost use lib.ListN.{length};
+ghost use Rattle.arrays.specs.Items.{items};
+ghost use Rattle.refusals.specs.Refusals.{answered};
+ghost use Rattle.refusals.specs.declared.Refusal.the-variants.{PaperFull};
+ghost use Rattle.lines.specs.Layers.{takenOf, capacityOf, settledOf, roomOf, heldMore, heldNext, Whole, Passed, Down};
+use arrays::ArrayVec;
+use printer::Printer;
+use refusals::Refusal;
+
+// The byte that ends a line.
+const LINE_END: u8 = 10;
+
+// The printer below, and the bytes that it has not been handed yet.
+#[derive(Drop)]
+pub struct Lines<P> {
+    below: P,
+    held: ArrayVec<u8, 32>,
+}
+
+impl<P: Printer> Lines<P> {
+    // A layer that holds nothing.
+    pub fn new(below: P) -> Self
+        ensures below { λ r. ⌜ r .below ≡ below ⌝ }
+        ensures taken { λ r. ⌜ takenOf P·Printer r ≡ P·Printer .taken below ⌝ }
+        ensures capacity { λ r. ⌜ capacityOf P·Printer r ≡ P·Printer .capacity below ⌝ }
+        ensures settled { λ r. ⌜ settledOf P·Printer r ≡ P·Printer .settled below ⌝ }
+    {
+        Lines {
+            below,
+            held: ArrayVec::new(0),
+        }
+    }
+
+    // The printer below. Where the layer is settled it has taken all that the layer has.
+    pub fn below(&self) -> &P
+        ensures below { λ r. ⌜ now r ≡ now (self .entry) .below ⌝ }
+        ensures whole { λ r. ⌜ (settledOf P·Printer (now (self .entry)) ≡ true → Whole P·Printer (now (self .entry)) (now r)) ⌝ }
+    {
+        &self.below
+    }
+
+    // Takes the layer apart. Where it is settled the printer below has taken all that the layer has.
+    pub fn into_below(self) -> P
+        ensures below { λ r. ⌜ r ≡ self .below ⌝ }
+        ensures whole { λ r. ⌜ (settledOf P·Printer self ≡ true → Whole P·Printer self r) ⌝ }
+    {
+        let Lines { below, held: _ } = self;
+        below
+    }
+
+    // Hands a byte down, or holds it where bytes are held before it or the printer below refuses it.
+    fn pass(&mut self, next: u8)
+        requires { ⌜ length (items (now self .held)) < 32 ⌝ }
+        ensures { λ _. ⌜ Passed P·Printer (now (self .entry)) (now (self .exit)) next ⌝ }
+    {
+        if self.held.len() > 0 || self.below.put(next).is_err() {
+            self.held.push(next);
+        }
+    }
+
+    // Hands the held bytes down; from the first that is refused on they stay held.
+    fn hand_down(&mut self)
+        ensures { λ _. ⌜ Down P·Printer (now (self .entry)) (now (self .exit)) ⌝ }
+    {
+        let held = self.held;
+        let bytes = held.as_slice();
+        self.held.clear();
+        for byte in bytes {
+            self.pass(*byte);
+        }
+    }
+
+    // Holds a byte more. Where 32 are held they go down first.
+    fn hold(&mut self, byte: u8)
+        requires { ⌜ roomOf P·Printer (now self) ≡ true ⌝ }
+        ensures taken { λ _. ⌜ takenOf P·Printer (now (self .exit)) ≡ takenOf P·Printer (now (self .entry)) ++ byte ∷ [] ⌝ }
+        ensures capacity { λ _. ⌜ capacityOf P·Printer (now (self .exit)) ≡ capacityOf P·Printer (now (self .entry)) ⌝ }
+        ensures held { λ _. ⌜ items (now (self .exit) .held) ≡ heldMore (items (now (self .entry) .held)) byte ⌝ }
+    {
+        if self.held.len() == 32 {
+            self.hand_down();
+        }
+        self.held.push(byte);
+    }
+}
+
+pub impl<P: Printer> Printer for Lines<P> as LinesPrinter {
+    ghost taken = { λ s. takenOf P·Printer s };
+
+    ghost capacity = { λ s. capacityOf P·Printer s };
+
+    ghost settled = { λ s. settledOf P·Printer s };
+
+    ghost lawful = { λ s. P·Printer .lawful (s .below) };
+
+    // Holds the byte; at the end of a line all that is held goes down.
+    fn put(&mut self, byte: u8) -> Result<(), Refusal>
+        ensures answer { λ r. ⌜ r ≡ answered (roomOf P·Printer (now (self .entry))) tt PaperFull ⌝ }
+        ensures taken { λ _. ⌜ takenOf P·Printer (now (self .exit)) ≡ cond (roomOf P·Printer (now (self .entry))) (takenOf P·Printer (now (self .entry)) ++ byte ∷ []) (takenOf P·Printer (now (self .entry))) ⌝ }
+        ensures capacity { λ _. ⌜ capacityOf P·Printer (now (self .exit)) ≡ capacityOf P·Printer (now (self .entry)) ⌝ }
+        ensures held { λ _. ⌜ items (now (self .exit) .held) ≡ cond (roomOf P·Printer (now (self .entry))) (heldNext (items (now (self .entry) .held)) byte) (items (now (self .entry) .held)) ⌝ }
+    {
+        if self.below.len() + self.held.len() >= self.below.capacity() {
+            return Err(Refusal::PaperFull);
+        }
+        self.hold(byte);
+        if byte == LINE_END {
+            self.hand_down();
+        }
+        Ok(())
+    }
+
+    // The printer below has all the bytes then, as `below` tells.
+    fn settle(&mut self) {
+        self.hand_down();
+        self.below.settle();
+    }
+
+    fn tear(&mut self) {
+        self.held.clear();
+        self.below.tear();
+    }
+
+    fn len(&self) -> usize {
+        let taken = self.below.len() + self.held.len();
+        taken.min(self.below.capacity())
+    }
+
+    fn capacity(&self) -> usize {
+        self.below.capacity()
+    }
+}
