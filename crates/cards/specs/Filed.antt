@@ -9,7 +9,14 @@ use Rattle.refusals.specs.declared.Refusal.{Refusal}
 use Rattle.refusals.specs.declared.Refusal.the-variants.{StoreFull}
 use Rattle.keys.specs.KeyOrder.{KeyName}
 use Rattle.values.specs.Forms.{Elem}
+use Rattle.values.specs.Means.{valueMeans}
+use Rattle.values.specs.declared.value.Value.{Value}
+use Rattle.keys.specs.KeyMeans.{keyMeans}
+use Rattle.keys.specs.declared.key.Key.{Key}
 use Rattle.store.specs.Names.{Names, with, hasRoom}
+
+abbrev pub pairMeans : Key × Value → KeyName × List Elem
+pairMeans e = (keyMeans (e .0), valueMeans (e .1))
 
 -- a line that says a key and a value sets that key alone, where there is room; a refused line changes nothing
 abbrev pub Files : ℕ → Result (KeyName × List Elem) Refusal → Names → Names → Result (Unit {0}) Refusal → Type 0

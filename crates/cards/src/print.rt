@@ -1,1 +1,35 @@
-// print
+// A card, printed.
+ghost use Rattle.printer.specs.Printing.{Prints};
+ghost use Rattle.keys.specs.KeyMeans.{keyMeans};
+ghost use Rattle.values.specs.Means.{valueMeans};
+ghost use Rattle.cards.specs.Printed.{keyForm, entryForm};
+use forms::print_value;
+use keys::key::Key;
+use numbers::Numeral;
+use printer::Printer;
+use printer::print::print;
+use refusals::Refusal;
+use values::value::Value;
+
+// Prints `NAME` or `NAME[NUMBER]`.
+pub fn print_key<P: Printer>(printer: &mut P, key: &Key) -> Result<(), Refusal>
+    ensures { λ r. ⌜ Prints P·Printer (now (printer .entry)) (now (printer .exit)) (keyForm (keyMeans (now (key .entry)))) r ⌝ }
+{
+    print(printer, key.name.as_bytes())?;
+    let Some(n) = key.subscript else {
+        return Ok(());
+    };
+    print(printer, b"[")?;
+    print(printer, Numeral::new(n).as_bytes())?;
+    print(printer, b"]")
+}
+
+// Prints `KEY=PRINTFORM` and ends the line.
+pub fn print_entry<P: Printer>(printer: &mut P, key: &Key, value: &Value) -> Result<(), Refusal>
+    ensures { λ r. ⌜ Prints P·Printer (now (printer .entry)) (now (printer .exit)) (entryForm (keyMeans (now (key .entry))) (valueMeans (now (value .entry)))) r ⌝ }
+{
+    print_key(printer, key)?;
+    print(printer, b"=")?;
+    print_value(printer, value)?;
+    print(printer, b"\n")
+}

@@ -8,7 +8,7 @@ ghost use lib.ListN.{length};
 ghost use Rattle.std.specs.declared.option.Option.the-variants.{Some, None};
 ghost use Rattle.refusals.specs.Refusals.{answered, meant};
 ghost use Rattle.refusals.specs.declared.Refusal.the-variants.{OutOfRange};
-ghost use Rattle.papers.specs.Rows.{wide, written, rowOf};
+ghost use Rattle.papers.specs.Rows.{wide, written, rowOf, short};
 use printer::Printer;
 use refusals::Refusal;
 
@@ -56,6 +56,8 @@ pub impl<const ROWS: usize> Printer for Board<ROWS> as BoardPrinter {
     ghost capacity = { λ _. 32 * ROWS };
 
     ghost settled = { λ _. true };
+
+    ghost within = { λ s. short (32 * ROWS) (s .rows) (s .within) };
 
     ghost lawful = { λ s. s .lawful };
 

@@ -4,7 +4,7 @@ ghost use mathlib.Core.Bool.{true};
 ghost use mathlib.Core.List.{[]};
 ghost use Prim.Native.Nat.{_≤_};
 ghost use lib.Dec.{leb};
-ghost use Rattle.arrays.specs.Items.{items};
+ghost use Rattle.arrays.specs.Items.{items, few};
 ghost use Rattle.refusals.specs.Refusals.{answered, meant};
 ghost use Rattle.refusals.specs.declared.Refusal.the-variants.{OutOfRange};
 use arrays::ArrayVec;
@@ -44,6 +44,8 @@ pub impl<const N: usize> Printer for Roll<N> as RollPrinter {
     ghost capacity = { λ _. N };
 
     ghost settled = { λ _. true };
+
+    ghost within = { λ s. few (s .strip) };
 
     ghost lawful = { λ s. s .lawful };
 

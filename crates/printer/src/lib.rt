@@ -11,7 +11,7 @@ use refusals::Refusal;
 
 pub mod print;
 
-// A maker's own printer shows by the three ghost members what it means, and proves the contracts.
+// A maker's own printer shows by the ghost members what it means, and proves the contracts.
 pub trait Printer {
     // the bytes taken since the last tear, first to last
     ghost taken: { Self → List ℕ };
@@ -21,6 +21,9 @@ pub trait Printer {
 
     // nothing is held back
     ghost settled: { Self → Bool };
+
+    // no more bytes than the capacity are taken
+    ghost within: { (p : Self) → length (taken p) ≤ capacity p };
 
     // the capacity is within its range
     ghost lawful: { (p : Self) → capacity p ≤ 16384 };
@@ -35,7 +38,7 @@ pub trait Printer {
     fn settle(&mut self)
         ensures taken { λ _. ⌜ taken (now (self .exit)) ≡ taken (now (self .entry)) ⌝ }
         ensures capacity { λ _. ⌜ capacity (now (self .exit)) ≡ capacity (now (self .entry)) ⌝ }
-        ensures settled { λ _. ⌜ (length (taken (now (self .entry))) ≤ capacity (now (self .entry)) → settled (now (self .exit)) ≡ true) ⌝ };
+        ensures settled { λ _. ⌜ settled (now (self .exit)) ≡ true ⌝ };
 
     // Empties it.
     fn tear(&mut self)
