@@ -15,7 +15,7 @@ use Rattle.std.proofs.shelf.Tests.{cond-true, cond-false, ltb-true, ltb-false, 
 use Rattle.refusals.specs.Refusals.{answered}
 use Rattle.refusals.specs.declared.Refusal.{Refusal}
 use Rattle.refusals.specs.declared.Refusal.the-variants.{PaperFull}
-use Rattle.refusals.proofs.Answered.{answered-ok, answered-err, leb-shift}
+use Rattle.refusals.proofs.Answered.{answered-ok, answered-err, handed-on, leb-shift}
 use Rattle.printer.specs.declared.Printer as printer
 use Rattle.printer.specs.Printing.{room, Prints}
 
@@ -90,3 +90,7 @@ module _ {P : Type 0} (p : printer.Ghosts P) where
         answer = ap Err (cut .1) ∙ ap (λ x. answered x tt PaperFull) (sym (lt-leb (length (xs ++ ys)) n longer));
         capacity = a .capacity;
       }
+
+  -- a print that a `?` breaks off, of bytes that go on with `rest`
+  pub prints-broke : {before after : P} {xs ys : List ℕ} {f : Refusal} {r : Result (Unit {0}) Refusal} (rest : List ℕ) → xs ++ rest ≡ ys → ErrBy r (λ y. y ≡ f) → Prints p before after xs (Err f) → Prints p before after ys r
+  prints-broke {f = f} {r = r} rest e by h = prints-as e (sym (handed-on f r by)) (prints-stop rest h)

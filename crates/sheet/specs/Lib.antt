@@ -1,0 +1,2 @@
+pub mod FreeRows
+pub mod SheetMeans
