@@ -1,5 +1,5 @@
 -- What is printed of a card. Assumes nothing.
-use mathlib.Core.List.{List, [], _∷_, _++_}
+use mathlib.Core.List.{List, [], _∷_, _++_, map}
 use Prim.Native.Nat.{ℕ}
 use lib.IntN.{ℤ}
 use Rattle.std.specs.declared.option.Option.{Option}
@@ -8,7 +8,9 @@ use Rattle.std.specs.Joined.{joined}
 use Rattle.std.specs.Written.{signed}
 use Rattle.keys.specs.KeyOrder.{KeyName}
 use Rattle.values.specs.Forms.{Elem, valueForm}
-use Rattle.store.specs.Names.{Names, valueAt}
+use Rattle.store.specs.declared.entry.Entry.{Entry}
+use Rattle.keys.specs.KeyMeans.{keyMeans}
+use Rattle.store.specs.Names.{Names, readAt}
 
 -- `[NUMBER]` where there is one
 abbrev pub subscriptForm : Option ℤ → List ℕ
@@ -19,15 +21,14 @@ subscriptForm (Some n) = 91 ∷ signed n ++ 93 ∷ []
 abbrev pub keyForm : KeyName → List ℕ
 keyForm k = k .0 ++ subscriptForm (k .1)
 
--- an unset key reads as the value of no elements
-abbrev pub orEmpty : Option (List Elem) → List Elem
-orEmpty None = []
-orEmpty (Some v) = v
-
 -- `KEY=PRINTFORM` and the end of the line
 abbrev pub entryForm : KeyName → List Elem → List ℕ
 entryForm k v = keyForm k ++ (61 ∷ valueForm v ++ 10 ∷ [])
 
 -- a line for each key, with the value that it has
 abbrev pub cardForm : Names → List KeyName → List ℕ
-cardForm ns ks = joined (λ (k : KeyName). entryForm k (orEmpty (valueAt k ns))) ks
+cardForm ns ks = joined (λ (k : KeyName). entryForm k (readAt k ns)) ks
+
+-- the keys of rows
+abbrev pub keysOf : List Entry → List KeyName
+keysOf rows = map (λ (e : Entry). keyMeans (e .key)) rows

@@ -2,13 +2,16 @@
 ghost use Rattle.printer.specs.Printing.{Prints};
 ghost use Rattle.keys.specs.KeyMeans.{keyMeans};
 ghost use Rattle.values.specs.Means.{valueMeans};
-ghost use Rattle.cards.specs.Printed.{keyForm, entryForm};
+ghost use Rattle.cards.specs.Printed.{keyForm, entryForm, cardForm, keysOf};
 use forms::print_value;
 use keys::key::Key;
 use numbers::Numeral;
 use printer::Printer;
 use printer::print::print;
 use refusals::Refusal;
+use store::Store;
+use store::entry::Entry;
+use store::read;
 use values::value::Value;
 
 // Prints `NAME` or `NAME[NUMBER]`.
@@ -32,4 +35,14 @@ pub fn print_entry<P: Printer>(printer: &mut P, key: &Key, value: &Value) -> Res
     print(printer, b"=")?;
     print_value(printer, value)?;
     print(printer, b"\n")
+}
+
+// Prints a line for the key of each row, with the value that the store has at it.
+pub fn print_card<S: Store, P: Printer>(store: &S, rows: &[Entry], printer: &mut P) -> Result<(), Refusal>
+    ensures { λ r. ⌜ Prints P·Printer (now (printer .entry)) (now (printer .exit)) (cardForm (S·Store .names (now (store .entry))) (keysOf (now (rows .entry)))) r ⌝ }
+{
+    for row in rows {
+        print_entry(printer, &row.key, &read(store, &row.key))?;
+    }
+    Ok(())
 }

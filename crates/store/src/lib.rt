@@ -12,7 +12,7 @@ ghost use Rattle.keys.specs.KeyMeans.{keyMeans};
 ghost use Rattle.keys.specs.KeyOrder.{keyOrder};
 ghost use Rattle.values.specs.Means.{valueMeans};
 ghost use Rattle.store.specs.Laws.{Same-look-ups, Put-sets, Remove-unsets};
-ghost use Rattle.store.specs.Names.{Names, valueAt, isSet, with, without, hasRoom};
+ghost use Rattle.store.specs.Names.{Names, valueAt, readAt, isSet, with, without, hasRoom};
 use keys::key::Key;
 use refusals::Refusal;
 use values::value::Value;
@@ -55,6 +55,16 @@ pub trait Store {
     // How many keys it holds at most.
     fn capacity(&self) -> usize
         ensures { λ r. ⌜ r ≡ capacity (now (self .entry)) ⌝ };
+}
+
+// The value of a key; an unset key reads as the value of no elements.
+pub fn read<S: Store>(store: &S, key: &Key) -> Value
+    ensures { λ r. ⌜ valueMeans r ≡ readAt (keyMeans (now (key .entry))) (S·Store .names (now (store .entry))) ⌝ }
+{
+    match store.ask(key) {
+        Some(value) => value,
+        None => Value::new(),
+    }
 }
 
 // How many keys are set. What is promised beyond that is why the names of a store say what it means.
