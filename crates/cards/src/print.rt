@@ -38,7 +38,11 @@ pub fn print_entry<P: Printer>(printer: &mut P, key: &Key, value: &Value) -> Res
 }
 
 // Prints a line for the key of each row, with the value that the store has at it.
-pub fn print_card<S: Store, P: Printer>(store: &S, rows: &[Entry], printer: &mut P) -> Result<(), Refusal>
+pub fn print_card<S: Store, P: Printer>(
+    store: &S,
+    rows: &[Entry],
+    printer: &mut P,
+) -> Result<(), Refusal>
     ensures { λ r. ⌜ Prints P·Printer (now (printer .entry)) (now (printer .exit)) (cardForm (S·Store .names (now (store .entry))) (keysOf (now (rows .entry)))) r ⌝ }
 {
     for row in rows {

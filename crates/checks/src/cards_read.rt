@@ -1,0 +1,85 @@
+// Names, functions, stacks and the lines of a card.
+use cards::file::read_line;
+use functions::find;
+use keys::name::Name;
+use refusals::Refusal;
+use refusals::RefusalDebug;
+use refusals::RefusalPartialEq;
+use stacks::Stack;
+use std::test::*;
+
+#[test]
+fn lawful_names() -> Result<(), Fail> {
+    let lawful: [&[u8]; 6] = [
+        b"a",
+        b"_",
+        b"END.1",
+        b"if",
+        b"LENGTH",
+        b"a23456789012345678901234",
+    ];
+    for name in lawful {
+        check(Name::new(name).is_ok())?;
+    }
+    let unlawful: [&[u8]; 7] = [
+        b"",
+        b"9a",
+        b".a",
+        b"a-b",
+        b"END",
+        b"JOINEACH",
+        b"a234567890123456789012345",
+    ];
+    for name in unlawful {
+        check(Name::new(name).is_err())?;
+    }
+    Ok(())
+}
+
+#[test]
+fn refused_lines() -> Result<(), Fail> {
+    let names: [&[u8]; 7] = [
+        b" 1",
+        b"9a 1",
+        b"IF 1",
+        b"a[ 1",
+        b"a[1]x 1",
+        b"a[+1] 1",
+        b"a[9223372036854775808] 1",
+    ];
+    for line in names {
+        check(matches!(read_line(line), Err(Refusal::BadName)))?;
+    }
+    let values: [&[u8]; 4] = [
+        b"a",
+        b"a 9223372036854775808",
+        b"a 123456789012345678901234567890123",
+        b"a 1,2,3,4,5,6,7,8,9,10,11,12,13,14,15,16,17",
+    ];
+    for line in values {
+        check(matches!(read_line(line), Err(Refusal::BadValue)))?;
+    }
+    check(read_line(b"a[-9223372036854775808] 1,2,3,4,5,6,7,8,9,10,11,12,13,14,15,16").is_ok())
+}
+
+#[test]
+fn argument_counts() -> Result<(), Fail> {
+    let Some(append) = find(b"APPEND") else {
+        return Err(Fail::new("no APPEND"));
+    };
+    check(append.least == 2 && append.most == 4)?;
+    check(find(b"ATOI").is_some())?;
+    check(find(b"VALUE").is_some())?;
+    check(find(b"SUM").is_none())
+}
+
+#[test]
+fn stack_of_two() -> Result<(), Fail> {
+    let mut slots = [0u8; 2];
+    let mut stack = Stack::new(&mut slots);
+    check(stack.push(1) && stack.push(2) && !stack.push(3))?;
+    check_eq(stack.peek(), Some(2))?;
+    check_eq(stack.pop(), Some(2))?;
+    check_eq(stack.pop(), Some(1))?;
+    check_eq(stack.pop(), None)
+}

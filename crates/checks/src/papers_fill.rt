@@ -1,0 +1,59 @@
+// Papers that are filled to the byte, also through the line layer.
+use lines::Lines;
+use lines::LinesPrinter;
+use papers::board::Board;
+use papers::board::BoardPrinter;
+use papers::roll::Roll;
+use papers::roll::RollPrinter;
+use printer::Printer;
+use printer::print::print;
+use refusals::Refusal;
+use refusals::RefusalDebug;
+use refusals::RefusalPartialEq;
+use std::test::*;
+
+// A printer of 64 bytes, empty at first, is filled and refuses one byte more.
+fn fill<P: Printer>(printer: &mut P) -> Result<(), Fail> {
+    check_eq(printer.capacity(), 64)?;
+    print(printer, &[65; 40])?;
+    print(printer, b"a line\n")?;
+    check_eq(print(printer, &[66; 40]), Err(Refusal::PaperFull))?;
+    check_eq(printer.len(), 64)?;
+    check_eq(printer.put(67), Err(Refusal::PaperFull))?;
+    printer.settle();
+    check_eq(printer.len(), 64)
+}
+
+#[test]
+fn roll_fills() -> Result<(), Fail> {
+    let mut roll = Roll::<64>::new()?;
+    fill(&mut roll)?;
+    check(roll.bytes().len() == 64)?;
+    roll.tear();
+    check_eq(roll.len(), 0)
+}
+
+#[test]
+fn layered_roll_fills() -> Result<(), Fail> {
+    let mut lines = Lines::new(Roll::<64>::new()?);
+    print(&mut lines, b"held")?;
+    check_eq(lines.below().len(), 0)?;
+    lines.tear();
+    fill(&mut lines)?;
+    check_eq(lines.below().len(), 64)
+}
+
+#[test]
+fn board_fills() -> Result<(), Fail> {
+    let mut board = Board::<2>::new()?;
+    fill(&mut board)?;
+    check(board.row(1).is_some())?;
+    check(board.row(2).is_none())
+}
+
+#[test]
+fn too_long_papers() -> Result<(), Fail> {
+    check(Roll::<16385>::new().is_err())?;
+    check(Board::<513>::new().is_err())?;
+    check(Roll::<0>::new().is_ok())
+}

@@ -1,0 +1,96 @@
+// Numbers, texts and values at their bounds.
+use forms::concat;
+use forms::same_form;
+use forms::value_form;
+use numbers::Numeral;
+use numbers::read::read_number;
+use refusals::Refusal;
+use refusals::RefusalDebug;
+use refusals::RefusalPartialEq;
+use std::test::*;
+use values::element::Element;
+use values::given::Given;
+use values::judge::judge_value;
+use values::text::Text;
+use values::value::Value;
+
+#[test]
+fn lowest_and_highest() -> Result<(), Fail> {
+    check(Numeral::new(i64::MIN).as_bytes() == b"-9223372036854775808")?;
+    check(Numeral::new(i64::MAX).as_bytes() == b"9223372036854775807")?;
+    check(Numeral::new(0).as_bytes() == b"0")?;
+    check_eq(read_number(b"-9223372036854775808"), Ok(i64::MIN))?;
+    check_eq(read_number(b"+9223372036854775807"), Ok(i64::MAX))?;
+    check_eq(read_number(b"9223372036854775808"), Err(Refusal::Overflow))?;
+    check_eq(read_number(b"-9223372036854775809"), Err(Refusal::Overflow))?;
+    check_eq(read_number(b"-000"), Ok(0))
+}
+
+#[test]
+fn no_numbers() -> Result<(), Fail> {
+    let none: [&[u8]; 6] = [b"", b"-", b"+", b"1a", b"--1", b" 1"];
+    for bytes in none {
+        check_eq(read_number(bytes), Err(Refusal::NotDigits))?;
+    }
+    Ok(())
+}
+
+#[test]
+fn texts_of_32_bytes() -> Result<(), Fail> {
+    check(Text::new(&[65; 32]).is_ok())?;
+    check(Text::new(&[65; 33]).is_err())?;
+    let mut one = Value::new();
+    one.push(Element::Text(Text::new(&[65; 31])?))?;
+    let mut digit = Value::new();
+    digit.push(Element::Number(7))?;
+    check(concat(&one, &digit).is_ok())?;
+    digit.push(Element::Number(7))?;
+    check(concat(&one, &digit).is_err())?;
+    check(!same_form(&one, &digit))
+}
+
+#[test]
+fn sixteen_elements() -> Result<(), Fail> {
+    let text = Text::new(&[65; 32])?;
+    let mut value = Value::new();
+    for _ in 0..16 {
+        value.push(Element::Both(1, text))?;
+    }
+    check_eq(
+        value.push(Element::Number(1)),
+        Err(Refusal::TooManyElements),
+    )?;
+    check_eq(value.elements().len(), 16)?;
+    check_eq(value_form(&value).len(), 527)?;
+    let mut twice = value;
+    check_eq(twice.append(&value), Err(Refusal::TooManyElements))?;
+    check_eq(twice.append(&Value::new()), Ok(()))?;
+    check(same_form(&twice, &value))
+}
+
+#[test]
+fn judged_values() -> Result<(), Fail> {
+    let long = [65; 33];
+    let number = Given {
+        number: Some(-3),
+        text: None,
+    };
+    let both = Given {
+        number: Some(1),
+        text: Some(b"one"),
+    };
+    let neither = Given {
+        number: None,
+        text: None,
+    };
+    let too_long = Given {
+        number: Some(1),
+        text: Some(&long),
+    };
+    let value = judge_value(&[number, both])?;
+    check(value_form(&value).as_slice() == b"-3,one")?;
+    check(judge_value(&[number, neither]).is_err())?;
+    check(judge_value(&[too_long]).is_err())?;
+    check(judge_value(&[number; 16]).is_ok())?;
+    check(judge_value(&[number; 17]).is_err())
+}
