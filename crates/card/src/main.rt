@@ -1,4 +1,7 @@
 // Prints a customer's card: reads `NAME VALUE` lines, files them, and prints them in key order.
+ghost use mathlib.Core.Path.{_≡_};
+ghost use Prim.Native.Nat.{_+_, _-_};
+ghost use lib.ListN.{length};
 use cards::cut::find;
 use cards::file::file_line;
 use cards::print::print_card;
@@ -37,6 +40,17 @@ fn without_return(line: &[u8]) -> &[u8] {
     }
 }
 
+// What stands behind a place.
+fn behind(bytes: &[u8], at: usize) -> &[u8]
+    ensures { λ r. ⌜ length (now r) ≡ length (now (bytes .entry)) - (at + 1) ⌝ }
+{
+    if at < bytes.len() {
+        &bytes[at + 1..]
+    } else {
+        &bytes[bytes.len()..]
+    }
+}
+
 // Files one line. An empty line says nothing; a refused one changes nothing and is noted.
 fn take_line<S: Store>(
     store: &mut S,
@@ -62,8 +76,9 @@ fn take_card<S: Store>(heap: Global, store: &mut S, card: &[u8]) -> Result<Vec<B
     let mut rest = card;
     let mut number: u64 = 1;
     while let Some(end) = find(rest, b'\n') {
-        take_line(store, number, without_return(&rest[0..end]), &mut bad)?;
-        rest = &rest[end + 1..];
+        let line = without_return(&rest[0..end]);
+        rest = behind(rest, end);
+        take_line(store, number, line, &mut bad)?;
         number = number.saturating_add(1);
     }
     take_line(store, number, without_return(rest), &mut bad)?;
@@ -93,10 +108,15 @@ fn shows(board: &Board<128>, bytes: &[u8]) -> bool {
         let Some(row) = board.row(at) else {
             return false;
         };
-        if row.len() > rest.len() || row != &rest[0..row.len()] {
+        let n = row.len();
+        if n > rest.len() {
             return false;
         }
-        rest = &rest[row.len()..];
+        let part = &rest[0..n];
+        if row != part {
+            return false;
+        }
+        rest = &rest[n..];
     }
     rest.is_empty()
 }

@@ -47,8 +47,12 @@ fn layered_roll_fills() -> Result<(), Fail> {
 fn board_fills() -> Result<(), Fail> {
     let mut board = Board::<2>::new()?;
     fill(&mut board)?;
-    check(board.row(1).is_some())?;
-    check(board.row(2).is_none())
+    check_eq(board.row(1).ok_or("no row")?.len(), 32)?;
+    check(board.row(2).is_none())?;
+    board.tear();
+    print(&mut board, &[7; 33])?;
+    check_eq(board.row(0).ok_or("no row")?.len(), 32)?;
+    check_eq(board.row(1).ok_or("no row")?, &[7])
 }
 
 #[test]

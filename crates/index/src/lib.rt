@@ -11,8 +11,6 @@ use arrays::ArrayVec;
 use store::entry::Entry;
 
 pub mod rows;
-#[cfg(test)]
-mod tests;
 
 #[derive(Drop)]
 pub struct Index<const N: usize> {

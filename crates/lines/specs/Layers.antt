@@ -1,11 +1,14 @@
 -- What the line layer means over a printer. Assumes nothing.
-use mathlib.Core.Path.{_≡_}
+use mathlib.Core.Path.{_≡_, ap}
 use mathlib.Core.Bool.{Bool, true, _&&_, cond}
 use mathlib.Core.List.{List, [], _∷_, _++_}
-use Prim.Native.Nat.{ℕ, _+_, _≤_, _<_}
+use Prim.Native.Nat.{ℕ, _+_, _≤_}
+use native.Mathlib.Omega.{arith}
 use lib.Dec.{ltb, eqb}
-use lib.ListN.{length}
+use lib.ListN.{length, take, length-append, length-take}
+use Rattle.std.proofs.shelf.Lists.{take-all}
 use Rattle.arrays.specs.Items.{items}
+use Rattle.printer.specs.Printing.{room}
 use Rattle.printer.specs.declared.Printer as printer
 use Rattle.lines.specs.declared.Lines.{Lines}
 
@@ -18,9 +21,9 @@ abbrev pub heldNext : List ℕ → ℕ → List ℕ
 heldNext held byte = cond (eqb byte 10) [] (heldMore held byte)
 
 module _ {P : Type 0} (p : printer.Ghosts P) where
-  -- the bytes taken below, then those held
+  -- the bytes taken below, then those held for which there is room below
   abbrev pub takenOf : Lines P → List ℕ
-  takenOf l = p .taken (l .below) ++ items (l .held)
+  takenOf l = p .taken (l .below) ++ take (room (p .capacity (l .below)) (p .taken (l .below))) (items (l .held))
 
   -- the capacity below
   abbrev pub capacityOf : Lines P → ℕ
@@ -34,20 +37,25 @@ module _ {P : Type 0} (p : printer.Ghosts P) where
   abbrev pub roomOf : Lines P → Bool
   roomOf l = ltb (length (takenOf l)) (capacityOf l)
 
+  -- there is room below for all that is held; so it is in every state that a layer gets into
+  abbrev pub Fits : Lines P → Type 0
+  Fits l = length (p .taken (l .below)) + length (items (l .held)) ≤ p .capacity (l .below)
+
+  -- then nothing that is held is cut
+  pub uncut : (l : Lines P) → Fits l → takenOf l ≡ p .taken (l .below) ++ items (l .held)
+  uncut l h = ap (λ t. p .taken (l .below) ++ t) (take-all (room (p .capacity (l .below)) (p .taken (l .below))) (items (l .held)) (omega arith))
+
+  -- no more bytes than the capacity are taken
+  pub withinOf : (l : Lines P) → length (takenOf l) ≤ capacityOf l
+  withinOf l = let h = p .within (l .below) in simp (length-append, length-take) (omega arith)
+
   -- a printer that has all that the layer has taken
   pub record Whole (l : Lines P) (below : P) : Type 0 where
     pub taken : p .taken below ≡ takenOf l
     pub settled : p .settled below ≡ true
 
-  -- a byte more, last; it goes below where nothing is held and there is room for it
-  pub record Passed (before after : Lines P) (byte : ℕ) : Type 0 where
-    pub taken : takenOf after ≡ takenOf before ++ byte ∷ []
-    pub capacity : capacityOf after ≡ capacityOf before
-    pub held : length (items (after .held)) ≤ length (items (before .held)) + 1
-    pub down : length (items (before .held)) ≡ 0 → length (p .taken (before .below)) < capacityOf before → length (items (after .held)) ≡ 0
-
-  -- what the layer means is kept, and nothing is held where all of it is within the capacity
+  -- all that the layer has taken stands below, and nothing is held
   pub record Down (before after : Lines P) : Type 0 where
-    pub taken : takenOf after ≡ takenOf before
+    pub taken : p .taken (after .below) ≡ takenOf before
     pub capacity : capacityOf after ≡ capacityOf before
-    pub down : length (takenOf before) ≤ capacityOf before → length (items (after .held)) ≡ 0
+    pub held : items (after .held) ≡ []

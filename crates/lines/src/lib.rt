@@ -2,14 +2,13 @@
 ghost use mathlib.Core.Path.{_≡_};
 ghost use mathlib.Core.Bool.{true, cond};
 ghost use mathlib.Core.List.{[], _∷_, _++_};
-ghost use Prim.Native.Nat.{_<_};
-ghost use lib.ListN.{length};
 ghost use Rattle.arrays.specs.Items.{items};
 ghost use Rattle.refusals.specs.Refusals.{answered};
 ghost use Rattle.refusals.specs.declared.Refusal.the-variants.{PaperFull};
-ghost use Rattle.lines.specs.Layers.{takenOf, capacityOf, settledOf, roomOf, heldMore, heldNext, Whole, Passed, Down};
+ghost use Rattle.lines.specs.Layers.{takenOf, capacityOf, settledOf, withinOf, roomOf, heldMore, heldNext, Fits, Whole, Down};
 use arrays::ArrayVec;
 use printer::Printer;
+use printer::print::print;
 use refusals::Refusal;
 
 // The byte that ends a line.
@@ -29,6 +28,7 @@ impl<P: Printer> Lines<P> {
         ensures taken { λ r. ⌜ takenOf P·Printer r ≡ P·Printer .taken below ⌝ }
         ensures capacity { λ r. ⌜ capacityOf P·Printer r ≡ P·Printer .capacity below ⌝ }
         ensures settled { λ r. ⌜ settledOf P·Printer r ≡ P·Printer .settled below ⌝ }
+        ensures fits { λ r. ⌜ Fits P·Printer r ⌝ }
     {
         Lines {
             below,
@@ -53,26 +53,13 @@ impl<P: Printer> Lines<P> {
         below
     }
 
-    // Hands a byte down, or holds it where bytes are held before it or the printer below refuses it.
-    fn pass(&mut self, next: u8)
-        requires { ⌜ length (items (now self .held)) < 32 ⌝ }
-        ensures { λ _. ⌜ Passed P·Printer (now (self .entry)) (now (self .exit)) next ⌝ }
-    {
-        if self.held.len() > 0 || self.below.put(next).is_err() {
-            self.held.push(next);
-        }
-    }
-
-    // Hands the held bytes down; from the first that is refused on they stay held.
+    // Hands the held bytes down. One that is refused was not taken: there is no room for it.
     fn hand_down(&mut self)
         ensures { λ _. ⌜ Down P·Printer (now (self .entry)) (now (self .exit)) ⌝ }
     {
         let held = self.held;
-        let bytes = held.as_slice();
+        let _ = print(&mut self.below, held.as_slice());
         self.held.clear();
-        for byte in bytes {
-            self.pass(*byte);
-        }
     }
 
     // Holds a byte more. Where 32 are held they go down first.
@@ -81,6 +68,7 @@ impl<P: Printer> Lines<P> {
         ensures taken { λ _. ⌜ takenOf P·Printer (now (self .exit)) ≡ takenOf P·Printer (now (self .entry)) ++ byte ∷ [] ⌝ }
         ensures capacity { λ _. ⌜ capacityOf P·Printer (now (self .exit)) ≡ capacityOf P·Printer (now (self .entry)) ⌝ }
         ensures held { λ _. ⌜ items (now (self .exit) .held) ≡ heldMore (items (now (self .entry) .held)) byte ⌝ }
+        ensures fits { λ _. ⌜ Fits P·Printer (now (self .exit)) ⌝ }
     {
         if self.held.len() == 32 {
             self.hand_down();
@@ -96,16 +84,19 @@ pub impl<P: Printer> Printer for Lines<P> as LinesPrinter {
 
     ghost settled = { λ s. settledOf P·Printer s };
 
+    ghost within = { λ s. withinOf P·Printer s };
+
     ghost lawful = { λ s. P·Printer .lawful (s .below) };
 
-    // Holds the byte; at the end of a line all that is held goes down.
+    // Holds the byte, where below there is room for all that is held and for it; at the end of a line what is held goes down.
     fn put(&mut self, byte: u8) -> Result<(), Refusal>
         ensures answer { λ r. ⌜ r ≡ answered (roomOf P·Printer (now (self .entry))) tt PaperFull ⌝ }
         ensures taken { λ _. ⌜ takenOf P·Printer (now (self .exit)) ≡ cond (roomOf P·Printer (now (self .entry))) (takenOf P·Printer (now (self .entry)) ++ byte ∷ []) (takenOf P·Printer (now (self .entry))) ⌝ }
         ensures capacity { λ _. ⌜ capacityOf P·Printer (now (self .exit)) ≡ capacityOf P·Printer (now (self .entry)) ⌝ }
         ensures held { λ _. ⌜ items (now (self .exit) .held) ≡ cond (roomOf P·Printer (now (self .entry))) (heldNext (items (now (self .entry) .held)) byte) (items (now (self .entry) .held)) ⌝ }
+        ensures fits { λ _. ⌜ (Fits P·Printer (now (self .entry)) → Fits P·Printer (now (self .exit))) ⌝ }
     {
-        if self.below.len() + self.held.len() >= self.below.capacity() {
+        if self.len() >= self.below.capacity() {
             return Err(Refusal::PaperFull);
         }
         self.hold(byte);
@@ -115,20 +106,34 @@ pub impl<P: Printer> Printer for Lines<P> as LinesPrinter {
         Ok(())
     }
 
-    // The printer below has all the bytes then, as `below` tells.
-    fn settle(&mut self) {
+    // Nothing is held then, and the printer below has all the bytes.
+    fn settle(&mut self)
+        ensures taken { λ _. ⌜ takenOf P·Printer (now (self .exit)) ≡ takenOf P·Printer (now (self .entry)) ⌝ }
+        ensures capacity { λ _. ⌜ capacityOf P·Printer (now (self .exit)) ≡ capacityOf P·Printer (now (self .entry)) ⌝ }
+        ensures settled { λ _. ⌜ settledOf P·Printer (now (self .exit)) ≡ true ⌝ }
+        ensures held { λ _. ⌜ items (now (self .exit) .held) ≡ [] ⌝ }
+        ensures below { λ _. ⌜ P·Printer .taken (now (self .exit) .below) ≡ takenOf P·Printer (now (self .entry)) ⌝ }
+        ensures fits { λ _. ⌜ Fits P·Printer (now (self .exit)) ⌝ }
+    {
         self.hand_down();
         self.below.settle();
     }
 
-    fn tear(&mut self) {
+    // Drops what is held too.
+    fn tear(&mut self)
+        ensures taken { λ _. ⌜ takenOf P·Printer (now (self .exit)) ≡ [] ⌝ }
+        ensures capacity { λ _. ⌜ capacityOf P·Printer (now (self .exit)) ≡ capacityOf P·Printer (now (self .entry)) ⌝ }
+        ensures held { λ _. ⌜ items (now (self .exit) .held) ≡ [] ⌝ }
+        ensures fits { λ _. ⌜ Fits P·Printer (now (self .exit)) ⌝ }
+    {
         self.held.clear();
         self.below.tear();
     }
 
+    // The bytes below, and those held for which there is room.
     fn len(&self) -> usize {
-        let taken = self.below.len() + self.held.len();
-        taken.min(self.below.capacity())
+        let under = self.below.len();
+        under + self.held.len().min(self.below.capacity() - under)
     }
 
     fn capacity(&self) -> usize {

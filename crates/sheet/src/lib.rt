@@ -12,8 +12,6 @@ use store::entry::Entry;
 
 mod find;
 pub mod rows;
-#[cfg(test)]
-mod tests;
 
 #[derive(Drop)]
 pub struct Sheet<const N: usize> {

@@ -1,6 +1,6 @@
 use native.Mathlib.Omega.{arith}
-use lib.ListN.{length-append}
+use Rattle.lines.proofs.Steps.{count}
 use Rattle.lines.proofs.LinesPrinter.len.Needs as need
 
 pub returns : need.returns
-returns g c = simp length-append (omega arith)
+returns g c = omega (arith, count (g .P·Printer) (c .args .self .now))
