@@ -60,8 +60,10 @@ fn sheet_fills() -> Result<(), Fail> {
 fn index_fills() -> Result<(), Fail> {
     let mut index = Index::<2>::new()?;
     fill(&mut index)?;
-    check(index.rows().len() == 2)?;
-    check(index.rows()[0].key.name.as_bytes() == b"A")
+    let Some(first) = index.rows().first() else {
+        return Err(Fail::new("no rows"));
+    };
+    check(first.key.name.as_bytes() == b"A")
 }
 
 #[test]
