@@ -25,7 +25,7 @@ impl<T: Copy, const N: usize> ArrayVec<T, N> {
     pub fn len(&self) -> usize
         ensures { λ r. ⌜ r ≡ length (items (now (self .entry))) ⌝ }
     {
-        self.len
+        self.as_slice().len()
     }
 
     pub fn as_slice(&self) -> &[T]
@@ -92,7 +92,7 @@ impl<T: Copy, const N: usize> ArrayVec<T, N> {
             self.slots[i + 1] = self.slots[i];
         }
         self.slots[at] = x;
-        self.len = self.len + 1;
+        self.len += 1;
         true
     }
 
@@ -114,7 +114,7 @@ impl<T: Copy, const N: usize> ArrayVec<T, N> {
     pub fn swap_remove(&mut self, at: usize) -> bool
         ensures { λ r. ⌜ ((d : T) → Allowed (ltb at (length (items (now (self .entry))))) (items (now (self .entry))) (swapped (items (now (self .entry))) at d) (items (now (self .exit))) r) ⌝ }
     {
-        if at >= self.len {
+        if self.len <= at {
             return false;
         }
         self.len -= 1;

@@ -44,6 +44,10 @@ numberOf f = listed f .0
 abbrev pub layerOf : Refusal → Layer
 layerOf f = listed f .1
 
+-- no two refusals share a number
+abbrev pub Own-numbers : Type 0
+Own-numbers = (f g : Refusal) → numberOf f ≡ numberOf g → f ≡ g
+
 -- the words of the layers in reports
 abbrev pub wordOf : Layer → List ℕ
 wordOf Reader = codes "reader"

@@ -1,6 +1,6 @@
 // What the part refuses: one enum for all layers, with a number and a layer for each case.
 ghost use mathlib.Core.Path.{_≡_};
-ghost use Rattle.refusals.specs.Refusals.{numberOf, layerOf, wordOf};
+ghost use Rattle.refusals.specs.Refusals.{numberOf, layerOf, wordOf, Own-numbers};
 
 // The layer that refuses.
 #[derive(Clone, Copy, PartialEq, Eq, Debug)]
@@ -78,8 +78,15 @@ pub enum Refusal {
 }
 
 impl Refusal {
-    // The number by which reports name it.
+    // The number by which reports name it. No two refusals share one.
     pub fn number(self) -> u8
+        ensures answer { λ r. ⌜ r ≡ numberOf self ⌝ }
+        ensures own { λ _. ⌜ Own-numbers ⌝ }
+    {
+        self.listed_number()
+    }
+
+    fn listed_number(self) -> u8
         ensures { λ r. ⌜ r ≡ numberOf self ⌝ }
     {
         match self {

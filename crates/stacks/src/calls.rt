@@ -62,7 +62,7 @@ impl<'a, T: Copy> Stack<'a, T> {
     pub fn peek(&self) -> Option<T>
         ensures { λ r. ⌜ r ≡ top (stacked (now (self .entry))) ⌝ }
     {
-        if self.len == 0 {
+        if self.len < 1 {
             return None;
         }
         let slots = &self.slots[..];
