@@ -1,5 +1,4 @@
 pub mod Cuts
 pub mod Cut
 pub mod Lines
-pub mod Printed
 pub mod Filed

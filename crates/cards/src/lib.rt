@@ -1,5 +1,4 @@
-// A customer's card: lines that set names, filed in a store and printed.
+// A customer's card: lines that set names, read and filed in a store.
 pub mod cut;
 pub mod file;
 pub mod line;
-pub mod print;

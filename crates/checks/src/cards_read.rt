@@ -3,8 +3,6 @@ use cards::file::read_line;
 use functions::find;
 use keys::name::Name;
 use refusals::Refusal;
-use refusals::RefusalDebug;
-use refusals::RefusalPartialEq;
 use stacks::Stack;
 use std::test::*;
 

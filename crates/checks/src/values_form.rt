@@ -5,8 +5,6 @@ use forms::value_form;
 use numbers::Numeral;
 use numbers::read::read_number;
 use refusals::Refusal;
-use refusals::RefusalDebug;
-use refusals::RefusalPartialEq;
 use std::test::*;
 use values::element::Element;
 use values::given::Given;
@@ -19,18 +17,18 @@ fn lowest_and_highest() -> Result<(), Fail> {
     check(Numeral::new(i64::MIN).as_bytes() == b"-9223372036854775808")?;
     check(Numeral::new(i64::MAX).as_bytes() == b"9223372036854775807")?;
     check(Numeral::new(0).as_bytes() == b"0")?;
-    check_eq(read_number(b"-9223372036854775808"), Ok(i64::MIN))?;
-    check_eq(read_number(b"+9223372036854775807"), Ok(i64::MAX))?;
-    check_eq(read_number(b"9223372036854775808"), Err(Refusal::Overflow))?;
-    check_eq(read_number(b"-9223372036854775809"), Err(Refusal::Overflow))?;
-    check_eq(read_number(b"-000"), Ok(0))
+    check(matches!(read_number(b"-9223372036854775808"), Ok(i64::MIN)))?;
+    check(matches!(read_number(b"+9223372036854775807"), Ok(i64::MAX)))?;
+    check(matches!(read_number(b"9223372036854775808"), Err(Refusal::Overflow)))?;
+    check(matches!(read_number(b"-9223372036854775809"), Err(Refusal::Overflow)))?;
+    check(matches!(read_number(b"-000"), Ok(0)))
 }
 
 #[test]
 fn no_numbers() -> Result<(), Fail> {
     let none: [&[u8]; 6] = [b"", b"-", b"+", b"1a", b"--1", b" 1"];
     for bytes in none {
-        check_eq(read_number(bytes), Err(Refusal::NotDigits))?;
+        check(matches!(read_number(bytes), Err(Refusal::NotDigits)))?;
     }
     Ok(())
 }
@@ -63,8 +61,8 @@ fn sixteen_elements() -> Result<(), Fail> {
     check_eq(value.elements().len(), 16)?;
     check_eq(value_form(&value).len(), 527)?;
     let mut twice = value;
-    check_eq(twice.append(&value), Err(Refusal::TooManyElements))?;
-    check_eq(twice.append(&Value::new()), Ok(()))?;
+    check(matches!(twice.append(&value), Err(Refusal::TooManyElements)))?;
+    check(matches!(twice.append(&Value::new()), Ok(())))?;
     check(same_form(&twice, &value))
 }
 

@@ -1,8 +1,8 @@
-// A card, printed.
+// What a store holds, printed: a line for each key.
 ghost use Rattle.printer.specs.Printing.{Prints};
 ghost use Rattle.keys.specs.KeyMeans.{keyMeans};
 ghost use Rattle.values.specs.Means.{valueMeans};
-ghost use Rattle.cards.specs.Printed.{keyForm, entryForm, cardForm, keysOf};
+ghost use Rattle.listings.specs.Printed.{keyForm, entryForm, cardForm, keysOf};
 use forms::print_value;
 use keys::key::Key;
 use numbers::Numeral;

@@ -13,7 +13,7 @@ use Rattle.keys.specs.KeyOrder.{KeyName}
 use Rattle.values.specs.Forms.{Elem}
 use Rattle.store.specs.Names.{Names, readAt}
 use Rattle.store.specs.declared.entry.Entry.{Entry}
-use Rattle.cards.specs.Printed.{subscriptForm, entryForm, cardForm, keysOf}
+use Rattle.listings.specs.Printed.{subscriptForm, entryForm, cardForm, keysOf}
 
 module _ (name a : List ℕ) (s : Option ℤ) (is : a ≡ name) where
   pub plain-part : s ≡ None → a ≡ name ++ subscriptForm s

@@ -6,9 +6,9 @@ use mir.Val.{toZ, ofZ}
 use Rattle.std.specs.Written.{signed}
 use Rattle.printer.proofs.Steps.{prints-as, prints-then, prints-broke}
 use Rattle.keys.specs.KeyMeans.{nameMeans}
-use Rattle.cards.specs.Printed.{subscriptForm}
-use Rattle.cards.proofs.Parts.{plain-part, bracket-part, number-part}
-use Rattle.cards.proofs.print.print_key.Needs as need
+use Rattle.listings.specs.Printed.{subscriptForm}
+use Rattle.listings.proofs.Parts.{plain-part, bracket-part, number-part}
+use Rattle.listings.proofs.print_key.Needs as need
 
 pub returns-in-Break-print : need.returns-in-Break-print
 returns-in-Break-print g c =

@@ -5,9 +5,9 @@ use lib.ListN.{take, drop}
 use Rattle.std.proofs.shelf.Lists.{take-all}
 use Rattle.printer.proofs.Steps.{prints-as, prints-none, prints-then, prints-broke}
 use Rattle.values.specs.Means.{valueMeans}
-use Rattle.cards.specs.Printed.{cardForm, keysOf}
-use Rattle.cards.proofs.Parts.{card-more, card-split}
-use Rattle.cards.proofs.print.print_card.Needs as need
+use Rattle.listings.specs.Printed.{cardForm, keysOf}
+use Rattle.listings.proofs.Parts.{card-more, card-split}
+use Rattle.listings.proofs.print_card.Needs as need
 
 pub loop-row-holds : need.loop-row-holds
 loop-row-holds g c = prints-none (g .P·Printer) (c .args .printer .now)

@@ -4,9 +4,9 @@ use Rattle.printer.proofs.Steps.{prints-as, prints-then, prints-broke}
 use Rattle.keys.specs.KeyMeans.{keyMeans}
 use Rattle.values.specs.Forms.{valueForm}
 use Rattle.values.specs.Means.{valueMeans}
-use Rattle.cards.specs.Printed.{keyForm}
-use Rattle.cards.proofs.Parts.{equals-part, value-part}
-use Rattle.cards.proofs.print.print_entry.Needs as need
+use Rattle.listings.specs.Printed.{keyForm}
+use Rattle.listings.proofs.Parts.{equals-part, value-part}
+use Rattle.listings.proofs.print_entry.Needs as need
 
 pub returns-in-Break-print-key : need.returns-in-Break-print-key
 returns-in-Break-print-key g c = prints-broke (g .P·Printer) (61 ∷ valueForm (valueMeans (c .args .value .now)) ++ 10 ∷ []) refl (c .from-residual .ensures .1) (c .in-Break-print-key .ensures tt)
