@@ -8,6 +8,7 @@ use papers::roll::RollPrinter;
 use printer::Printer;
 use printer::print::print;
 use refusals::Refusal;
+use refusals::RefusalDebug;
 use std::test::*;
 
 // A printer of 64 bytes, empty at first, is filled and refuses one byte more.

@@ -5,6 +5,7 @@ use index::rows::IndexStore;
 use keys::key::Key;
 use keys::name::Name;
 use refusals::Refusal;
+use refusals::RefusalDebug;
 use sheet::Sheet;
 use sheet::rows::SheetStore;
 use std::test::*;

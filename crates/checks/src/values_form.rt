@@ -5,6 +5,7 @@ use forms::value_form;
 use numbers::Numeral;
 use numbers::read::read_number;
 use refusals::Refusal;
+use refusals::RefusalDebug;
 use std::test::*;
 use values::element::Element;
 use values::given::Given;
@@ -54,10 +55,10 @@ fn sixteen_elements() -> Result<(), Fail> {
     for _ in 0..16 {
         value.push(Element::Both(1, text))?;
     }
-    check_eq(
+    check(matches!(
         value.push(Element::Number(1)),
-        Err(Refusal::TooManyElements),
-    )?;
+        Err(Refusal::TooManyElements)
+    ))?;
     check_eq(value.elements().len(), 16)?;
     check_eq(value_form(&value).len(), 527)?;
     let mut twice = value;
