@@ -22,6 +22,7 @@ use std::alloc::Global;
 use std::error::AnyError;
 use std::io::Read;
 use store::Store;
+use store::count_names;
 
 // A line that was refused.
 #[derive(Clone, Copy)]
@@ -94,8 +95,9 @@ fn report(rt: &LibcRuntime, refusal: Refusal) -> Result<(), AnyError> {
     Ok(())
 }
 
-fn made<T>(made: Result<T, Refusal>) -> Result<T, AnyError> {
-    match made {
+// What was made; the capacities here are within their ranges.
+fn made<T>(result: Result<T, Refusal>) -> Result<T, AnyError> {
+    match result {
         Ok(value) => Ok(value),
         Err(_) => Err("a capacity is outside its range".into()),
     }
@@ -152,7 +154,7 @@ fn run(rt: &LibcRuntime) -> Result<(), AnyError> {
     if !shows(&board, roll.bytes()) {
         return Err("the shop's copy differs".into());
     }
-    let names = index.len();
+    let names = count_names(&index);
     let length = roll.len();
     println!(rt, "done names={names} paper={length}")?;
     Ok(())

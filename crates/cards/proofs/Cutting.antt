@@ -8,8 +8,7 @@ use lib.Dec.{eqb}
 use lib.ListN.{length, take, drop, getD}
 use Rattle.std.proofs.shelf.Lists.{at-drop-more, at-drop-all, take-more, take-all, take-rest}
 use Rattle.std.proofs.shelf.Tests.{eq-eqb, ne-eqb, cond-true, cond-false}
-use Rattle.cards.specs.Cuts.{has, before, behind}
-use Rattle.cards.specs.Cut.{NotThere, Cut}
+use Rattle.cards.specs.Cuts.{has, before, behind, NotThere, Cut}
 
 module _ (b : ℕ) (bs : List ℕ) where
   -- none of the first i bytes is b

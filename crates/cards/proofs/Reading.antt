@@ -16,8 +16,7 @@ use Rattle.refusals.proofs.Answered.{answered-ok, answered-err}
 use Rattle.refusals.specs.declared.Refusal.the-variants.{BadName, BadValue}
 use Rattle.keys.specs.NameBytes.{lawfulName}
 use Rattle.values.specs.Forms.{Elem}
-use Rattle.cards.specs.Cuts.{has, before, behind}
-use Rattle.cards.specs.Cut.{NotThere, Cut}
+use Rattle.cards.specs.Cuts.{has, before, behind, NotThere, Cut}
 use Rattle.cards.specs.Lines.{isEmpty, written, fits, number, subscripts, keyIn, lawfulPiece, element, extended, pieces, elementsIn, valueIn}
 
 -- ---- subscripts

@@ -1,4 +1,3 @@
 pub mod Cuts
-pub mod Cut
 pub mod Lines
 pub mod Filed

@@ -1,6 +1,6 @@
 // Where bytes are cut.
 ghost use Rattle.std.specs.Options.{Cases};
-ghost use Rattle.cards.specs.Cut.{NotThere, Cut};
+ghost use Rattle.cards.specs.Cuts.{NotThere, Cut};
 
 // The place of the first byte of a kind.
 pub fn find(bytes: &[u8], b: u8) -> Option<usize>

@@ -1,8 +1,15 @@
 // Names, functions, stacks and the lines of a card.
+use cards::file::file_line;
 use cards::file::read_line;
 use functions::find;
+use index::Index;
+use index::rows::IndexStore;
 use keys::name::Name;
+use listings::print_card;
+use papers::roll::Roll;
+use papers::roll::RollPrinter;
 use refusals::Refusal;
+use refusals::RefusalDebug;
 use stacks::Stack;
 use std::test::*;
 
@@ -58,6 +65,21 @@ fn refused_lines() -> Result<(), Fail> {
         check(matches!(read_line(line), Err(Refusal::BadValue)))?;
     }
     check(read_line(b"a[-9223372036854775808] 1,2,3,4,5,6,7,8,9,10,11,12,13,14,15,16").is_ok())
+}
+
+// A card of three lines on a store of two keys and a paper of eleven bytes.
+#[test]
+fn short_till() -> Result<(), Fail> {
+    let mut index = Index::<2>::new()?;
+    file_line(&mut index, b"b 1,two")?;
+    file_line(&mut index, b"a[-1] 3")?;
+    check(matches!(file_line(&mut index, b"c 4"), Err(Refusal::StoreFull)))?;
+    let mut roll = Roll::<11>::new()?;
+    check(matches!(
+        print_card(&index, index.rows(), &mut roll),
+        Err(Refusal::PaperFull)
+    ))?;
+    check(roll.bytes() == b"a[-1]=3\nb=1")
 }
 
 #[test]

@@ -39,7 +39,9 @@ fn layered_roll_fills() -> Result<(), Fail> {
     check_eq(lines.below().len(), 0)?;
     lines.tear();
     fill(&mut lines)?;
-    check_eq(lines.below().len(), 64)
+    let roll = lines.into_below();
+    check(roll.bytes().len() == 64)?;
+    check(&roll.bytes()[38..50] == b"AAa line\nBBB")
 }
 
 #[test]

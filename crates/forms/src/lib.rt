@@ -5,6 +5,7 @@ ghost use lib.Dec.{leb};
 ghost use lib.ListN.{length};
 ghost use Rattle.std.specs.shelf.Text.{sameBytes};
 ghost use Rattle.arrays.specs.Items.{items};
+ghost use Rattle.numbers.specs.Numbers.{readNumber};
 ghost use Rattle.printer.specs.Printing.{Prints};
 ghost use Rattle.refusals.specs.Refusals.{answered, meant};
 ghost use Rattle.refusals.specs.declared.Refusal.the-variants.{TextTooLong};
@@ -12,6 +13,7 @@ ghost use Rattle.values.specs.Forms.{form, valueForm};
 ghost use Rattle.values.specs.Means.{textMeans, elementMeans, valueMeans};
 use arrays::ArrayVec;
 use numbers::Numeral;
+use numbers::read::read_number;
 use printer::Printer;
 use printer::print::print;
 use refusals::Refusal;
@@ -27,12 +29,18 @@ pub fn element_form(element: &Element) -> ArrayVec<u8, 32>
     ensures { λ r. ⌜ items r ≡ form (elementMeans (now (element .entry))) ⌝ }
 {
     let mut bytes = ArrayVec::new(0);
+    // a number has at most 20 bytes and a text 32, so there is room
     match element {
-        Element::Number(n) => bytes.append(Numeral::new(*n).as_bytes()),
-        Element::Text(t) => bytes.append(t.as_bytes()),
-        Element::Both(_, t) => bytes.append(t.as_bytes()),
+        Element::Number(n) => {
+            bytes.append(Numeral::new(*n).as_bytes());
+        }
+        Element::Text(t) => {
+            bytes.append(t.as_bytes());
+        }
+        Element::Both(_, text) => {
+            bytes.append(text.as_bytes());
+        }
     }
-    ;
     bytes
 }
 
@@ -62,6 +70,13 @@ pub fn same_form(a: &Value, b: &Value) -> bool
     ensures { λ r. ⌜ r ≡ sameBytes (valueForm (valueMeans (now (a .entry)))) (valueForm (valueMeans (now (b .entry)))) ⌝ }
 {
     value_form(a).as_slice() == value_form(b).as_slice()
+}
+
+// Reads a number from a value's print form, which has to be an optional sign and digits.
+pub fn read_form(value: &Value) -> Result<i64, Refusal>
+    ensures { λ r. ⌜ r ≡ readNumber (valueForm (valueMeans (now (value .entry)))) ⌝ }
+{
+    read_number(value_form(value).as_slice())
 }
 
 // The print forms of two values in one text; over 32 bytes it is refused.

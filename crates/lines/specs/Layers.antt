@@ -1,6 +1,6 @@
 -- What the line layer means over a printer. Assumes nothing.
 use mathlib.Core.Path.{_≡_, ap}
-use mathlib.Core.Bool.{Bool, true, _&&_, cond}
+use mathlib.Core.Bool.{Bool, true, _&&_, _||_, cond}
 use mathlib.Core.List.{List, [], _∷_, _++_}
 use Prim.Native.Nat.{ℕ, _+_, _≤_}
 use native.Mathlib.Omega.{arith}
@@ -36,6 +36,10 @@ module _ {P : Type 0} (p : printer.Ghosts P) where
   -- a byte more is within the capacity
   abbrev pub roomOf : Lines P → Bool
   roomOf l = ltb (length (takenOf l)) (capacityOf l)
+
+  -- a byte that is taken sends held bytes down: one that ends a line, or one that comes while 32 are held
+  abbrev pub handsDown : Lines P → ℕ → Bool
+  handsDown l byte = roomOf l && (eqb byte 10 || eqb (length (items (l .held))) 32)
 
   -- there is room below for all that is held; so it is in every state that a layer gets into
   abbrev pub Fits : Lines P → Type 0

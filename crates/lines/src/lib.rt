@@ -1,11 +1,14 @@
 // The line layer over any printer: it holds up to 32 bytes, and hands them down at the end of a line, when it is full and on settling.
 ghost use mathlib.Core.Path.{_≡_};
-ghost use mathlib.Core.Bool.{true, cond};
+ghost use mathlib.Core.Bool.{true, false, cond};
 ghost use mathlib.Core.List.{[], _∷_, _++_};
+ghost use lib.Dec.{eqb};
+ghost use lib.ListN.{length};
+ghost use Rattle.std.specs.declared.result.Result.the-variants.{Err};
 ghost use Rattle.arrays.specs.Items.{items};
 ghost use Rattle.refusals.specs.Refusals.{answered};
 ghost use Rattle.refusals.specs.declared.Refusal.the-variants.{PaperFull};
-ghost use Rattle.lines.specs.Layers.{takenOf, capacityOf, settledOf, withinOf, roomOf, heldMore, heldNext, Fits, Whole, Down};
+ghost use Rattle.lines.specs.Layers.{takenOf, capacityOf, settledOf, withinOf, roomOf, handsDown, heldMore, heldNext, Fits, Whole, Down};
 use arrays::ArrayVec;
 use printer::Printer;
 use printer::print::print;
@@ -36,10 +39,11 @@ impl<P: Printer> Lines<P> {
         }
     }
 
-    // The printer below. Where the layer is settled it has taken all that the layer has.
+    // The printer below. What it has taken and then what is held is all that the layer has taken; of a settled layer it has taken all.
     pub fn below(&self) -> &P
         ensures below { λ r. ⌜ now r ≡ now (self .entry) .below ⌝ }
         ensures whole { λ r. ⌜ (settledOf P·Printer (now (self .entry)) ≡ true → Whole P·Printer (now (self .entry)) (now r)) ⌝ }
+        ensures uncut { λ r. ⌜ (Fits P·Printer (now (self .entry)) → takenOf P·Printer (now (self .entry)) ≡ P·Printer .taken (now r) ++ items (now (self .entry) .held)) ⌝ }
     {
         &self.below
     }
@@ -68,6 +72,7 @@ impl<P: Printer> Lines<P> {
         ensures taken { λ _. ⌜ takenOf P·Printer (now (self .exit)) ≡ takenOf P·Printer (now (self .entry)) ++ byte ∷ [] ⌝ }
         ensures capacity { λ _. ⌜ capacityOf P·Printer (now (self .exit)) ≡ capacityOf P·Printer (now (self .entry)) ⌝ }
         ensures held { λ _. ⌜ items (now (self .exit) .held) ≡ heldMore (items (now (self .entry) .held)) byte ⌝ }
+        ensures below { λ _. ⌜ (eqb (length (items (now (self .entry) .held))) 32 ≡ false → now (self .exit) .below ≡ now (self .entry) .below) ⌝ }
         ensures fits { λ _. ⌜ Fits P·Printer (now (self .exit)) ⌝ }
     {
         if self.held.len() == 32 {
@@ -93,7 +98,9 @@ pub impl<P: Printer> Printer for Lines<P> as LinesPrinter {
         ensures answer { λ r. ⌜ r ≡ answered (roomOf P·Printer (now (self .entry))) tt PaperFull ⌝ }
         ensures taken { λ _. ⌜ takenOf P·Printer (now (self .exit)) ≡ cond (roomOf P·Printer (now (self .entry))) (takenOf P·Printer (now (self .entry)) ++ byte ∷ []) (takenOf P·Printer (now (self .entry))) ⌝ }
         ensures capacity { λ _. ⌜ capacityOf P·Printer (now (self .exit)) ≡ capacityOf P·Printer (now (self .entry)) ⌝ }
+        ensures kept { λ r. ⌜ (r ≡ Err PaperFull → settledOf P·Printer (now (self .exit)) ≡ settledOf P·Printer (now (self .entry))) ⌝ }
         ensures held { λ _. ⌜ items (now (self .exit) .held) ≡ cond (roomOf P·Printer (now (self .entry))) (heldNext (items (now (self .entry) .held)) byte) (items (now (self .entry) .held)) ⌝ }
+        ensures below { λ _. ⌜ (handsDown P·Printer (now (self .entry)) byte ≡ false → now (self .exit) .below ≡ now (self .entry) .below) ⌝ }
         ensures fits { λ _. ⌜ (Fits P·Printer (now (self .entry)) → Fits P·Printer (now (self .exit))) ⌝ }
     {
         if self.len() >= self.below.capacity() {
@@ -123,6 +130,7 @@ pub impl<P: Printer> Printer for Lines<P> as LinesPrinter {
     fn tear(&mut self)
         ensures taken { λ _. ⌜ takenOf P·Printer (now (self .exit)) ≡ [] ⌝ }
         ensures capacity { λ _. ⌜ capacityOf P·Printer (now (self .exit)) ≡ capacityOf P·Printer (now (self .entry)) ⌝ }
+        ensures settled { λ _. ⌜ settledOf P·Printer (now (self .exit)) ≡ true ⌝ }
         ensures held { λ _. ⌜ items (now (self .exit) .held) ≡ [] ⌝ }
         ensures fits { λ _. ⌜ Fits P·Printer (now (self .exit)) ⌝ }
     {

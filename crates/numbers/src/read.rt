@@ -10,14 +10,14 @@ ghost use Rattle.numbers.specs.Numbers.{digit, digits, readOn, beginsWith, min
 use refusals::Refusal;
 
 // Whether the byte is a decimal digit.
-pub fn is_digit(b: u8) -> bool
+fn is_digit(b: u8) -> bool
     ensures { λ r. ⌜ r ≡ digit b ⌝ }
 {
     matches!(b, b'0'..=b'9')
 }
 
 // Whether all bytes are decimal digits.
-pub fn all_digits(bytes: &[u8]) -> bool
+fn all_digits(bytes: &[u8]) -> bool
     ensures { λ r. ⌜ r ≡ digits (now (bytes .entry)) ⌝ }
 {
     for b in bytes {

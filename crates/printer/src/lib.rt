@@ -5,6 +5,7 @@ ghost use mathlib.Core.List.{List, [], _∷_, _++_};
 ghost use Prim.Native.Nat.{ℕ, _≤_};
 ghost use lib.Dec.{ltb};
 ghost use lib.ListN.{length};
+ghost use Rattle.std.specs.declared.result.Result.the-variants.{Err};
 ghost use Rattle.refusals.specs.Refusals.{answered};
 ghost use Rattle.refusals.specs.declared.Refusal.the-variants.{PaperFull};
 use refusals::Refusal;
@@ -32,7 +33,8 @@ pub trait Printer {
     fn put(&mut self, byte: u8) -> Result<(), Refusal>
         ensures answer { λ r. ⌜ r ≡ answered (ltb (length (taken (now (self .entry)))) (capacity (now (self .entry)))) tt PaperFull ⌝ }
         ensures taken { λ _. ⌜ taken (now (self .exit)) ≡ cond (ltb (length (taken (now (self .entry)))) (capacity (now (self .entry)))) (taken (now (self .entry)) ++ byte ∷ []) (taken (now (self .entry))) ⌝ }
-        ensures capacity { λ _. ⌜ capacity (now (self .exit)) ≡ capacity (now (self .entry)) ⌝ };
+        ensures capacity { λ _. ⌜ capacity (now (self .exit)) ≡ capacity (now (self .entry)) ⌝ }
+        ensures kept { λ r. ⌜ (r ≡ Err PaperFull → settled (now (self .exit)) ≡ settled (now (self .entry))) ⌝ };
 
     // Holds nothing back any more; the meaning stays.
     fn settle(&mut self)
@@ -40,10 +42,11 @@ pub trait Printer {
         ensures capacity { λ _. ⌜ capacity (now (self .exit)) ≡ capacity (now (self .entry)) ⌝ }
         ensures settled { λ _. ⌜ settled (now (self .exit)) ≡ true ⌝ };
 
-    // Empties it.
+    // Empties it; nothing is held back then.
     fn tear(&mut self)
         ensures taken { λ _. ⌜ taken (now (self .exit)) ≡ [] ⌝ }
-        ensures capacity { λ _. ⌜ capacity (now (self .exit)) ≡ capacity (now (self .entry)) ⌝ };
+        ensures capacity { λ _. ⌜ capacity (now (self .exit)) ≡ capacity (now (self .entry)) ⌝ }
+        ensures settled { λ _. ⌜ settled (now (self .exit)) ≡ true ⌝ };
 
     // How many bytes it has taken.
     fn len(&self) -> usize

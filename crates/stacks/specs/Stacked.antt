@@ -12,8 +12,8 @@ abbrev pub stacked : {T : Type 0} → Stack T → List T
 stacked s = reverse (take (s .len) (s .slots .now))
 
 -- how many elements find room
-abbrev pub depth : {T : Type 0} → Stack T → ℕ
-depth s = length (s .slots .now)
+abbrev pub capacityOf : {T : Type 0} → Stack T → ℕ
+capacityOf s = length (s .slots .now)
 
 abbrev pub top : {T : Type 0} → List T → Option T
 top [] = None

@@ -4,14 +4,14 @@ ghost use mathlib.Core.Bool.{cond};
 ghost use mathlib.Core.List.{[], _∷_};
 ghost use lib.Dec.{ltb};
 ghost use lib.ListN.{length};
-ghost use Rattle.stacks.specs.Stacked.{stacked, depth, top, rest};
+ghost use Rattle.stacks.specs.Stacked.{stacked, capacityOf, top, rest};
 use super::Stack;
 
 impl<'a, T: Copy> Stack<'a, T> {
     // An empty stack in those slots.
     pub fn new(slots: &'a mut [T]) -> Stack<'a, T>
         ensures empty { λ r. ⌜ stacked r ≡ [] ⌝ }
-        ensures room { λ r. ⌜ depth r ≡ length (now (slots .entry)) ⌝ }
+        ensures room { λ r. ⌜ capacityOf r ≡ length (now (slots .entry)) ⌝ }
     {
         Stack { slots, len: 0 }
     }
@@ -25,16 +25,16 @@ impl<'a, T: Copy> Stack<'a, T> {
 
     // How many find room on it.
     pub fn capacity(&self) -> usize
-        ensures { λ r. ⌜ r ≡ depth (now (self .entry)) ⌝ }
+        ensures { λ r. ⌜ r ≡ capacityOf (now (self .entry)) ⌝ }
     {
         self.slots.len()
     }
 
     // Puts an element on top where there is room, and tells whether it did; else nothing changes.
     pub fn push(&mut self, x: T) -> bool
-        ensures answer { λ r. ⌜ r ≡ ltb (length (stacked (now (self .entry)))) (depth (now (self .entry))) ⌝ }
+        ensures answer { λ r. ⌜ r ≡ ltb (length (stacked (now (self .entry)))) (capacityOf (now (self .entry))) ⌝ }
         ensures after { λ r. ⌜ stacked (now (self .exit)) ≡ cond r (x ∷ stacked (now (self .entry))) (stacked (now (self .entry))) ⌝ }
-        ensures room { λ _. ⌜ depth (now (self .exit)) ≡ depth (now (self .entry)) ⌝ }
+        ensures room { λ _. ⌜ capacityOf (now (self .exit)) ≡ capacityOf (now (self .entry)) ⌝ }
     {
         if self.len < self.slots.len() {
             self.slots[self.len] = x;
@@ -49,7 +49,7 @@ impl<'a, T: Copy> Stack<'a, T> {
     pub fn pop(&mut self) -> Option<T>
         ensures answer { λ r. ⌜ r ≡ top (stacked (now (self .entry))) ⌝ }
         ensures after { λ _. ⌜ stacked (now (self .exit)) ≡ rest (stacked (now (self .entry))) ⌝ }
-        ensures room { λ _. ⌜ depth (now (self .exit)) ≡ depth (now (self .entry)) ⌝ }
+        ensures room { λ _. ⌜ capacityOf (now (self .exit)) ≡ capacityOf (now (self .entry)) ⌝ }
     {
         if self.len == 0 {
             return None;

@@ -3,8 +3,10 @@ use mathlib.Core.List.{[], _∷_, _++_}
 use Prim.Native.Nat.{_+_, _<_}
 use borrow.Author.Needs.{needs}
 use native.Mathlib.Omega.{arith}
+use lib.Dec.{eqb}
+use mathlib.Core.Bool.{false}
 use lib.ListN.{length}
-use Rattle.std.proofs.shelf.Tests.{ltb-true}
+use Rattle.std.proofs.shelf.Tests.{ltb-true, eqb-false}
 use Rattle.arrays.specs.Items.{items, few}
 use Rattle.lines.specs.declared.Lines.{Lines}
 use Rattle.lines.specs.Layers.{takenOf, capacityOf, heldMore}
@@ -21,7 +23,9 @@ returns g c =
     let most = few (s .held) in
     let ready : (takenOf p t ≡ takenOf p s) × (capacityOf p t ≡ capacityOf p s) × (length (items (t .held)) < 32) × (items (t .held) ++ b ∷ [] ≡ heldMore (items (s .held)) b) =
     elim (c .if-len-eq32 .came) [ then-len-eq32 w ↦ search (needs, taken-empty p) | else-len-eq32 w ↦ search needs ] in
+    let same : eqb (length (items (s .held))) 32 ≡ false → t .below ≡ s .below =
+    λ e. elim (c .if-len-eq32 .came) [ then-len-eq32 w ↦ absurd (eqb-false _ 32 e (search needs)) | else-len-eq32 w ↦ ap (λ l. l .below) (w .self-is) ] in
     let after : Lines (g .P .Denot) = record { below = t .below; held = c .push .last .self } in
     let more : items (after .held) ≡ items (t .held) ++ b ∷ [] = search needs in
     let space : length (p .taken (t .below)) + length (items (t .held)) < p .capacity (t .below) = omega (arith, ltb-true _ _ (c .pre), ap length (ready .0), count p t, p .within (t .below)) in
-    record { taken = taken-more p t after b refl more space ∙ ap (λ h. h ++ b ∷ []) (ready .0); capacity = ready .1; held = more ∙ ready .3; fits = fits-more p t after b refl more space }
+    record { taken = taken-more p t after b refl more space ∙ ap (λ h. h ++ b ∷ []) (ready .0); capacity = ready .1; held = more ∙ ready .3; below = same; fits = fits-more p t after b refl more space }

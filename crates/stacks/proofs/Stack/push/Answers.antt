@@ -3,7 +3,7 @@ use mathlib.Core.Bool.{true, false}
 use native.Mathlib.Omega.{arith}
 use lib.ListN.{length, length-set}
 use Rattle.std.proofs.shelf.Tests.{lt-ltb, le-ltb}
-use Rattle.stacks.specs.Stacked.{stacked, depth}
+use Rattle.stacks.specs.Stacked.{stacked, capacityOf}
 use Rattle.stacks.proofs.Tops.{tall, pushed}
 use Rattle.stacks.proofs.Stack.push.Needs as need
 
@@ -12,7 +12,7 @@ returns-then-self g c =
     let s = c .args .self .now in
     let n = tall (s .slots .now) (s .len) (s .within) in
     record {
-      answer = sym (lt-ltb (length (stacked s)) (depth s) (omega arith));
+      answer = sym (lt-ltb (length (stacked s)) (capacityOf s) (omega arith));
       after = pushed (s .slots .now) (s .len) (c .args .x) (c .if-self .taken);
       room = length-set (s .slots .now) (s .len) (c .args .x);
     }
@@ -21,4 +21,4 @@ pub returns-else-self : need.returns-else-self
 returns-else-self g c =
     let s = c .args .self .now in
     let n = tall (s .slots .now) (s .len) (s .within) in
-    record { answer = sym (le-ltb (length (stacked s)) (depth s) (omega arith)); after = refl; room = refl }
+    record { answer = sym (le-ltb (length (stacked s)) (capacityOf s) (omega arith)); after = refl; room = refl }

@@ -22,7 +22,7 @@ returns-then-at g c =
     let s = c .args .self .now in
     let n = length-written (s .rows) (s .len) (s .wide) (omega arith) in
     let full : ltb (length (written (s .len) (s .rows))) (32 * g .ROWS) ≡ false = le-ltb _ _ (omega arith) in
-    record { answer = sym (ap (λ t. answered t tt PaperFull) full); taken = sym (cond-false _ _ _ full); capacity = refl }
+    record { answer = sym (ap (λ t. answered t tt PaperFull) full); taken = sym (cond-false _ _ _ full); capacity = refl; kept = λ _. refl }
 
 pub returns : need.returns
 returns g c =
@@ -33,4 +33,5 @@ returns g c =
       answer = sym (ap (λ t. answered t tt PaperFull) room);
       taken = written-more (s .rows) (s .len) (c .args .byte) _ (s .wide) (omega arith) ∙ sym (cond-true _ _ _ room);
       capacity = refl;
+      kept = λ _. refl;
     }
