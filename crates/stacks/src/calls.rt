@@ -16,20 +16,6 @@ impl<'a, T: Copy> Stack<'a, T> {
         Stack { slots, len: 0 }
     }
 
-    // How many elements stand on it.
-    pub fn len(&self) -> usize
-        ensures { λ r. ⌜ r ≡ length (stacked (now (self .entry))) ⌝ }
-    {
-        self.len
-    }
-
-    // How many find room on it.
-    pub fn capacity(&self) -> usize
-        ensures { λ r. ⌜ r ≡ capacityOf (now (self .entry)) ⌝ }
-    {
-        self.slots.len()
-    }
-
     // Puts an element on top where there is room, and tells whether it did; else nothing changes.
     pub fn push(&mut self, x: T) -> bool
         ensures answer { λ r. ⌜ r ≡ ltb (length (stacked (now (self .entry)))) (capacityOf (now (self .entry))) ⌝ }

@@ -1,8 +1,9 @@
-// A stack in memory that the caller lends, for every element type.
+// A stack in memory that the caller lends, for every element type that can be copied.
 ghost use Prim.Native.Nat.{_≤_};
 ghost use lib.ListN.{length};
 
 pub mod calls;
+pub mod sizes;
 
 // The first `len` slots are the stack, the last of them its top; the others hold anything.
 #[derive(Drop)]
