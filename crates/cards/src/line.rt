@@ -42,7 +42,7 @@ fn written_number(bytes: &[u8]) -> Option<i64>
 }
 
 // One element: digits are a number with that text, anything else is a text.
-pub fn read_element(piece: &[u8]) -> Result<Element, Refusal>
+fn read_element(piece: &[u8]) -> Result<Element, Refusal>
     ensures { λ r. ⌜ meant elementMeans r ≡ answered (lawfulPiece (now (piece .entry))) (element (now (piece .entry))) BadValue ⌝ }
 {
     let Ok(text) = Text::new(piece) else {
@@ -71,7 +71,7 @@ fn read_subscript(bytes: &[u8]) -> Option<i64>
 }
 
 // A key: `NAME` or `NAME[NUMBER]`.
-pub fn read_key(bytes: &[u8]) -> Result<Key, Refusal>
+pub(crate) fn read_key(bytes: &[u8]) -> Result<Key, Refusal>
     ensures { λ r. ⌜ meant keyMeans r ≡ keyIn (now (bytes .entry)) ⌝ }
 {
     let Some(at) = find(bytes, b'[') else {
@@ -103,7 +103,7 @@ fn add(value: &mut Value, piece: &[u8]) -> Result<(), Refusal>
 }
 
 // A value: elements parted by commas.
-pub fn read_value(bytes: &[u8]) -> Result<Value, Refusal>
+pub(crate) fn read_value(bytes: &[u8]) -> Result<Value, Refusal>
     ensures { λ r. ⌜ meant valueMeans r ≡ valueIn (now (bytes .entry)) ⌝ }
 {
     let mut value = Value::new();

@@ -1,7 +1,6 @@
-// Names, functions, stacks and the lines of a card.
+// Names and the lines of a card.
 use cards::file::file_line;
 use cards::file::read_line;
-use functions::find;
 use index::Index;
 use index::rows::IndexStore;
 use keys::name::Name;
@@ -10,7 +9,6 @@ use papers::roll::Roll;
 use papers::roll::RollPrinter;
 use refusals::Refusal;
 use refusals::RefusalDebug;
-use stacks::Stack;
 use std::test::*;
 
 #[test]
@@ -80,26 +78,4 @@ fn short_till() -> Result<(), Fail> {
         Err(Refusal::PaperFull)
     ))?;
     check(roll.bytes() == b"a[-1]=3\nb=1")
-}
-
-#[test]
-fn argument_counts() -> Result<(), Fail> {
-    let Some(append) = find(b"APPEND") else {
-        return Err(Fail::new("no APPEND"));
-    };
-    check(append.least == 2 && append.most == 4)?;
-    check(find(b"ATOI").is_some())?;
-    check(find(b"VALUE").is_some())?;
-    check(find(b"SUM").is_none())
-}
-
-#[test]
-fn stack_of_two() -> Result<(), Fail> {
-    let mut slots = [0u8; 2];
-    let mut stack = Stack::new(&mut slots);
-    check(stack.push(1) && stack.push(2) && !stack.push(3))?;
-    check_eq(stack.peek(), Some(2))?;
-    check_eq(stack.pop(), Some(2))?;
-    check_eq(stack.pop(), Some(1))?;
-    check_eq(stack.pop(), None)
 }

@@ -26,15 +26,6 @@ fn lowest_and_highest() -> Result<(), Fail> {
 }
 
 #[test]
-fn no_numbers() -> Result<(), Fail> {
-    let none: [&[u8]; 6] = [b"", b"-", b"+", b"1a", b"--1", b" 1"];
-    for bytes in none {
-        check(matches!(read_number(bytes), Err(Refusal::NotDigits)))?;
-    }
-    Ok(())
-}
-
-#[test]
 fn texts_of_32_bytes() -> Result<(), Fail> {
     check(Text::new(&[65; 32]).is_ok())?;
     check(Text::new(&[65; 33]).is_err())?;

@@ -15,7 +15,7 @@ use store::read;
 use values::value::Value;
 
 // Prints `NAME` or `NAME[NUMBER]`.
-pub fn print_key<P: Printer>(printer: &mut P, key: &Key) -> Result<(), Refusal>
+fn print_key<P: Printer>(printer: &mut P, key: &Key) -> Result<(), Refusal>
     ensures { λ r. ⌜ Prints P·Printer (now (printer .entry)) (now (printer .exit)) (keyForm (keyMeans (now (key .entry)))) r ⌝ }
 {
     print(printer, key.name.as_bytes())?;
@@ -28,7 +28,7 @@ pub fn print_key<P: Printer>(printer: &mut P, key: &Key) -> Result<(), Refusal>
 }
 
 // Prints `KEY=PRINTFORM` and ends the line.
-pub fn print_entry<P: Printer>(printer: &mut P, key: &Key, value: &Value) -> Result<(), Refusal>
+fn print_entry<P: Printer>(printer: &mut P, key: &Key, value: &Value) -> Result<(), Refusal>
     ensures { λ r. ⌜ Prints P·Printer (now (printer .entry)) (now (printer .exit)) (entryForm (keyMeans (now (key .entry))) (valueMeans (now (value .entry)))) r ⌝ }
 {
     print_key(printer, key)?;

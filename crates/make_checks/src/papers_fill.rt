@@ -24,15 +24,6 @@ fn fill<P: Printer>(printer: &mut P) -> Result<(), Fail> {
 }
 
 #[test]
-fn roll_fills() -> Result<(), Fail> {
-    let mut roll = Roll::<64>::new()?;
-    fill(&mut roll)?;
-    check(roll.bytes().len() == 64)?;
-    roll.tear();
-    check_eq(roll.len(), 0)
-}
-
-#[test]
 fn layered_roll_fills() -> Result<(), Fail> {
     let mut lines = Lines::new(Roll::<64>::new()?);
     print(&mut lines, b"held")?;
@@ -54,11 +45,4 @@ fn board_fills() -> Result<(), Fail> {
     print(&mut board, &[7; 33])?;
     check_eq(board.row(0).ok_or("no row")?.len(), 32)?;
     check_eq(board.row(1).ok_or("no row")?, &[7])
-}
-
-#[test]
-fn too_long_papers() -> Result<(), Fail> {
-    check(Roll::<16385>::new().is_err())?;
-    check(Board::<513>::new().is_err())?;
-    check(Roll::<0>::new().is_ok())
 }

@@ -78,10 +78,3 @@ fn index_fills() -> Result<(), Fail> {
     };
     check(first.key.name.as_bytes() == b"A")
 }
-
-#[test]
-fn too_many_rows() -> Result<(), Fail> {
-    check(Sheet::<513>::new().is_err())?;
-    check(Index::<513>::new().is_err())?;
-    check(Index::<0>::new().is_ok())
-}

@@ -11,7 +11,7 @@ use super::value::Value;
 use refusals::Refusal;
 
 // An element with a number, a text of at most 32 bytes or both; any other is refused.
-pub fn judge_element(given: &Given) -> Result<Element, Refusal>
+fn judge_element(given: &Given) -> Result<Element, Refusal>
     ensures { λ r. ⌜ meant elementMeans r ≡ answered (lawfulElement (now (given .entry) .number) (now (given .entry) .text)) (elementOf (now (given .entry) .number) (now (given .entry) .text)) BadValue ⌝ }
 {
     let Some(bytes) = given.text else {

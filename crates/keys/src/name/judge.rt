@@ -18,14 +18,14 @@ use order::words::WordRow;
 use refusals::Refusal;
 
 // Whether a name can begin with the byte.
-pub fn is_name_start(b: u8) -> bool
+fn is_name_start(b: u8) -> bool
     ensures { λ r. ⌜ r ≡ nameStart b ⌝ }
 {
     matches!(b, b'A'..=b'Z' | b'a'..=b'z' | b'_')
 }
 
 // Whether a name can go on with the byte.
-pub fn is_name_byte(b: u8) -> bool
+fn is_name_byte(b: u8) -> bool
     ensures { λ r. ⌜ r ≡ nameByte b ⌝ }
 {
     matches!(b, b'A'..=b'Z' | b'a'..=b'z' | b'0'..=b'9' | b'_' | b'.')
