@@ -1,5 +1,9 @@
 // A vector of at most N elements in fixed memory.
+#![tactic(auto)]
+
 ghost use Rattle.std.specs.Prelude.{◌≡◌, ◌≤◌, length};
+
+use std::alloc::AllocError;
 
 pub mod changes;
 
@@ -10,6 +14,16 @@ pub struct ArrayVec<T, const N: usize> {
     len: usize,
     ghost sized: { length slots ≡ N },
     ghost within: { len ≤ N },
+}
+
+impl<T: Copy, const N: usize> Clone for ArrayVec<T, N> {
+    ghost is_clone = { λ v w. w ≡ v };
+
+    ghost is_infallible = { λ _. Unit {0} };
+
+    fn clone(&self) -> Result<Self, AllocError> {
+        Ok(*self)
+    }
 }
 
 impl<T: Copy, const N: usize> Copy for ArrayVec<T, N> {}

@@ -1,4 +1,6 @@
 // Prints a customer's card: reads `NAME VALUE` lines, files them, and prints them in key order.
+#![tactic(auto)]
+
 ghost use Rattle.std.specs.Prelude.{◌≡◌, ◌+◌, ◌-◌, length};
 
 use anyhow::anyhow;
@@ -81,15 +83,15 @@ fn take_card<S: Store>(heap: Global, store: &mut S, card: &[u8]) -> Result<Vec<B
 // Writes a refusal: its number and its layer.
 fn report(rt: &HostRuntime, refusal: Refusal) -> anyhow::Result<()> {
     let number = refusal.number();
-    print!(rt, "refused {number} in ")?;
+    print!(rt; "refused {number} in ")?;
     rt.write_all(refusal.layer().word())?;
     rt.write_all(b"\n")?;
     Ok(())
 }
 
 // What was made; the capacities here are within their ranges.
-fn made<T>(res: Result<T, Refusal>) -> anyhow::Result<T> {
-    match res {
+fn made<T>(answer: Result<T, Refusal>) -> anyhow::Result<T> {
+    match answer {
         Ok(value) => Ok(value),
         Err(_) => Err(anyhow!("a capacity is outside its range")),
     }
@@ -134,7 +136,7 @@ fn run(rt: &HostRuntime) -> anyhow::Result<()> {
 
     for b in bad.iter() {
         let line = b.line;
-        print!(rt, "line {line}: ")?;
+        print!(rt; "line {line}: ")?;
         report(rt, b.refusal)?;
     }
     let roll = paper.into_below();

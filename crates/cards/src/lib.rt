@@ -1,4 +1,6 @@
 // A customer's card: lines that set names, read and filed in a store.
+#![tactic(auto)]
+
 pub mod cut;
 pub mod file;
 pub mod line;

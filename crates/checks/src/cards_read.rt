@@ -76,6 +76,6 @@ fn short_till(rt: HostRuntime) -> Result<(), Fail> {
             Err(Refusal::PaperFull)
         )
     );
-    assert!(rt; roll.bytes() == b"a[-1]=3\nb=1");
+    assert!(rt; roll.bytes() == b"a[-1]=3\nb=1".as_slice());
     Ok(())
 }

@@ -12,9 +12,9 @@ use values::value::Value;
 
 #[test]
 fn lowest_and_highest(rt: HostRuntime) {
-    assert!(rt; Numeral::new(i64::MIN).as_bytes() == b"-9223372036854775808");
-    assert!(rt; Numeral::new(i64::MAX).as_bytes() == b"9223372036854775807");
-    assert!(rt; Numeral::new(0).as_bytes() == b"0");
+    assert!(rt; Numeral::new(i64::MIN).as_bytes() == b"-9223372036854775808".as_slice());
+    assert!(rt; Numeral::new(i64::MAX).as_bytes() == b"9223372036854775807".as_slice());
+    assert!(rt; Numeral::new(0).as_bytes() == b"0".as_slice());
     assert!(rt; matches!(read_number(b"-9223372036854775808"), Ok(i64::MIN)));
     assert!(rt; matches!(read_number(b"+9223372036854775807"), Ok(i64::MAX)));
     assert!(rt; matches!(read_number(b"9223372036854775808"), Err(Refusal::Overflow)));
@@ -72,7 +72,7 @@ fn judged_values(rt: HostRuntime) -> Result<(), Fail> {
         },
     ];
     let value = judge_value(&lawful)?;
-    assert!(rt; value_form(&value).as_slice() == b"-3,one");
+    assert!(rt; value_form(&value).as_slice() == b"-3,one".as_slice());
     let neither = [Given {
         number: None,
         text: None,

@@ -1,4 +1,6 @@
 // The functions of the language: which there are, and how many arguments each takes.
+#![tactic(auto)]
+
 ghost use Rattle.std.specs.Prelude.{◌≡◌, true, map};
 ghost use Rattle.order.specs.Made.{bytes_order};
 ghost use Rattle.order.specs.Names.{lookup};

@@ -1,4 +1,6 @@
 // A store whose rows are kept in key order, and found by halving.
+#![tactic(auto)]
+
 ghost use Rattle.std.specs.Prelude.{◌≡◌, ◌≤◌, true};
 ghost use Rattle.order.specs.Names.{key_of};
 ghost use Rattle.order.specs.Orders.{sorted};

@@ -6,12 +6,11 @@ use super::name::Name;
 use order::Ordered;
 use std::cmp::Ordering;
 
+#[derive(Clone, Copy)]
 pub struct Key {
     pub name: Name,
     pub subscript: Option<i64>,
 }
-
-impl Copy for Key {}
 
 impl Ordered for Key {
     ghost Means = { KeyName };

@@ -7,9 +7,8 @@ use arrays::ArrayVec;
 
 pub mod judge;
 
+#[derive(Clone, Copy)]
 pub struct Name {
     bytes: ArrayVec<u8, 24>,
     ghost lawful: { lawful_name (items bytes) ≡ true },
 }
-
-impl Copy for Name {}

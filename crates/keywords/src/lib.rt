@@ -1,4 +1,6 @@
 // The words of instructions.
+#![tactic(auto)]
+
 ghost use Rattle.std.specs.Prelude.{◌≡◌, true, map};
 ghost use Rattle.order.specs.Made.{bytes_order};
 ghost use Rattle.order.specs.Names.{lookup};

@@ -1,4 +1,6 @@
 // The line layer over any printer: it holds up to 32 bytes, and hands them down at the end of a line, when it is full and on settling.
+#![tactic(auto)]
+
 ghost use Rattle.std.specs.Prelude.{◌≡◌, true, false, [], ◌∷◌, ◌++◌, length, if◌then◌else◌, Err, ◌==◌};
 ghost use Rattle.arrays.specs.Items.{items};
 ghost use Rattle.refusals.specs.Refusals.{answered};

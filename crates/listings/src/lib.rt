@@ -1,4 +1,6 @@
 // What a store holds, printed: a line for each key.
+#![tactic(auto)]
+
 ghost use Rattle.printer.specs.Printing.{Prints};
 ghost use Rattle.keys.specs.KeyMeans.{key_means};
 ghost use Rattle.values.specs.Means.{value_means};

@@ -30,7 +30,7 @@ fn layered_roll_fills(rt: HostRuntime) -> Result<(), Fail> {
     fill(&rt, &mut lines)?;
     let roll = lines.into_below();
     assert!(rt; roll.bytes().len() == 64);
-    assert!(rt; &roll.bytes()[38..50] == b"AAa line\nBBB");
+    assert!(rt; &roll.bytes()[38..50] == b"AAa line\nBBB".as_slice());
     Ok(())
 }
 
@@ -43,6 +43,6 @@ fn board_fills(rt: HostRuntime) -> Result<(), Fail> {
     board.tear();
     print(&mut board, &[7; 33])?;
     assert_eq!(rt; board.row(0).ok_or("no row")?.len(), 32);
-    assert_eq!(rt; board.row(1).ok_or("no row")?, &[7]);
+    assert_eq!(rt; board.row(1).ok_or("no row")?, [7].as_slice());
     Ok(())
 }

@@ -76,6 +76,6 @@ fn index_fills(rt: HostRuntime) -> Result<(), Fail> {
     let Some(first) = index.rows().first() else {
         return Err(Fail::new("no rows"));
     };
-    assert!(rt; first.key.name.as_bytes() == b"A");
+    assert!(rt; first.key.name.as_bytes() == b"A".as_slice());
     Ok(())
 }

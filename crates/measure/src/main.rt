@@ -1,4 +1,6 @@
 // Reads a template from standard input and tells what it needs, or why it is refused.
+#![tactic(auto)]
+
 use reader::read;
 use std::alloc::{AllocError, Global};
 use std::io::Read;

@@ -1,4 +1,6 @@
 // Numbers in base ten, written and read.
+#![tactic(auto)]
+
 ghost use Rattle.std.specs.Prelude.{◌≡◌, ◌≤◌, length};
 
 pub mod read;

@@ -1,4 +1,6 @@
 // Keys with a total order, and the one search by halving over rows that are sorted by key.
+#![tactic(auto)]
+
 ghost use Rattle.std.specs.Prelude.{◌≡◌};
 ghost use Rattle.order.specs.Orders.{Order, Total, Located};
 

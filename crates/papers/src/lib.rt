@@ -1,3 +1,5 @@
 // Papers: printers in fixed memory.
+#![tactic(auto)]
+
 pub mod board;
 pub mod roll;

@@ -1,4 +1,6 @@
 // What a printer is: the bytes that it has taken, within a fixed capacity.
+#![tactic(auto)]
+
 ghost use Rattle.std.specs.Prelude.{◌≡◌, ℕ, ◌≤◌, Bool, true, ltb, List, [], ◌∷◌, ◌++◌, length, if◌then◌else◌, Err, nat_lt};
 ghost use Rattle.refusals.specs.Refusals.{answered};
 ghost use Rattle.refusals.specs.declared.Refusal.TheVariants.{PaperFull};

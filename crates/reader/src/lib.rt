@@ -1,4 +1,6 @@
 // Reads templates: from their bytes to a table of nodes, with the counts that a template needs.
+#![tactic(auto)]
+
 ghost use Rattle.std.specs.Prelude.{◌≡◌, ◌≤◌, min, [], length, take};
 ghost use Rattle.stacks.specs.Stacked.{stacked, capacity_of};
 ghost use Rattle.reader.specs.Answers.{Answered, Read};

@@ -3,6 +3,8 @@
 // A line of the table is TEMPLATE, a tab, EXPECTED. In TEMPLATE stand \n \t \r \\ for bytes 10, 9, 13 and 92, and \xHH for
 // any byte. Empty lines and lines that begin with # are passed over. A line `@repeat N` says that in the next template what
 // stands between the first \( and the \) behind it stands there N times.
+#![tactic(auto)]
+
 ghost use Rattle.std.specs.Prelude.{◌<◌, length, IfSome};
 
 use reader::read;

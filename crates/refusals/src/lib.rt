@@ -1,4 +1,6 @@
 // What the part refuses: one enum for all layers, with a number and a layer for each case.
+#![tactic(auto)]
+
 ghost use Rattle.std.specs.Prelude.{◌≡◌};
 ghost use Rattle.refusals.specs.Refusals.{number_of, layer_of, word_of, OwnNumbers};
 

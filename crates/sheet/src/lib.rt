@@ -1,4 +1,6 @@
 // A store whose rows stand as they came, and are found one after the other.
+#![tactic(auto)]
+
 ghost use Rattle.std.specs.Prelude.{◌≡◌, ◌≤◌, true, map};
 ghost use Rattle.order.specs.Names.{distinct};
 ghost use Rattle.arrays.specs.Items.{items};

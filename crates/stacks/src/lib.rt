@@ -1,4 +1,6 @@
 // A stack in memory that the caller lends, for every element type that can be copied.
+#![tactic(auto)]
+
 ghost use Rattle.std.specs.Prelude.{◌≤◌, length};
 
 pub mod calls;

@@ -7,12 +7,11 @@ use keys::name::Name;
 use order::Row;
 use values::value::Value;
 
+#[derive(Clone, Copy)]
 pub struct Entry {
     pub key: Key,
     pub value: Value,
 }
-
-impl Copy for Entry {}
 
 impl Entry {
     // A row for slots that are not in use.

@@ -1,4 +1,6 @@
 // What a store is: keys with their values, within a fixed capacity.
+#![tactic(auto)]
+
 ghost use Rattle.std.specs.Prelude.{◌≡◌, ℕ, ◌≤◌, true, length};
 ghost use Rattle.std.specs.Option.{option_map};
 ghost use Rattle.order.specs.Names.{key_of};

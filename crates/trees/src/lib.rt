@@ -1,4 +1,6 @@
 // What a template is read into: a tree in the specs, and its nodes in the order in which a print runs them.
+#![tactic(auto)]
+
 use functions::Function;
 use tokens::operator::{Op, Sign};
 

@@ -1,4 +1,6 @@
 // Values: lists of elements, each with a number, a text or both.
+#![tactic(auto)]
+
 pub mod element;
 pub mod given;
 pub mod judge;

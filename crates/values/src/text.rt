@@ -3,8 +3,7 @@ use arrays::ArrayVec;
 
 pub mod bytes;
 
+#[derive(Clone, Copy)]
 pub struct Text {
     bytes: ArrayVec<u8, 32>,
 }
-
-impl Copy for Text {}

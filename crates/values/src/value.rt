@@ -4,8 +4,7 @@ use arrays::ArrayVec;
 
 pub mod elements;
 
+#[derive(Clone, Copy)]
 pub struct Value {
     elements: ArrayVec<Element, 16>,
 }
-
-impl Copy for Value {}

@@ -9,6 +9,6 @@ tested xs ys r h = search (rules, bytes_eq-Decides)
 
 pub returns : goal.returns
 returns c =
-    let xs = c.as-slice.result.now in
-    let ys = c.as-slice-2.result.now in
-    tested xs ys c.eq.result (slice_eq-Decides Decides-eqb xs ys _ c.eq.ensures) ∙ (λ i. bytes_eq ((c.as-slice.ensures ∙ c.value-form.ensures) i) ((c.as-slice-2.ensures ∙ c.value-form-2.ensures) i))
+    let xs = c.as_slice.result.now in
+    let ys = c.as_slice-2.result.now in
+    tested xs ys c.eq.result (slice_eq-Decides Decides-eqb xs ys _ c.eq.ensures) ∙ (λ i. bytes_eq ((c.as_slice.ensures ∙ c.value_form.ensures) i) ((c.as_slice-2.ensures ∙ c.value_form-2.ensures) i))

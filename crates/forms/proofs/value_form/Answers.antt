@@ -16,13 +16,13 @@ loop-i-preserved c =
     let all = c.elements-element-items in
     let at = read_map element_means all.result.now (value_means v) l.i x all.ensures c.loop-i-test.true c.element-item.is in
     let few : length (value_means v) ≤ 16 = rw length-map (simp length-take (omega arith)) in
-    let piece : c.as-slice.result.now ≡ form (element_means x) = c.as-slice.ensures ∙ c.element-form.ensures in
-    let small : length c.as-slice.result.now ≤ 32 = rw c.as-slice.ensures (simp length-take (omega arith)) in
+    let piece : c.as_slice.result.now ≡ form (element_means x) = c.as_slice.ensures ∙ c.element_form.ensures in
+    let small : length c.as_slice.result.now ≤ 32 = rw c.as_slice.ensures (simp length-take (omega arith)) in
     elim c.if-i-gt0.branch [
       | then-i-gt0 w ↦ later_item (value_means v) l.i (element_means x) at.0 few at.1 (items l.bytes) _ l.invariant.0 l.invariant.1 _ piece small (items c.if-i-gt0.bytes) w.push.result _ w.if-i-gt0.true
           (subst (λ b. Allowed (ltb (length (items l.bytes)) 527) (items l.bytes) (items l.bytes ++ 44 ∷ []) (items b) w.push.result) (sym w.bytes-is) w.push.ensures) c.append.ensures
       | else-i-gt0 w ↦ first_item (value_means v) l.i (element_means x) at.0 few at.1 (items l.bytes) _ l.invariant.0 l.invariant.1 _ piece small c.append.result w.if-i-gt0.false
-          (subst (λ b. Allowed (leb (length c.as-slice.result.now) (527 - length (items b))) (items b) (items b ++ c.as-slice.result.now) (items c.append.new.self) c.append.result) w.bytes-is c.append.ensures)
+          (subst (λ b. Allowed (leb (length c.as_slice.result.now) (527 - length (items b))) (items b) (items b ++ c.as_slice.result.now) (items c.append.new.self) c.append.result) w.bytes-is c.append.ensures)
     ]
 
 pub returns : goal.returns

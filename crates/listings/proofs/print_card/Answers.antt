@@ -13,17 +13,17 @@ pub loop-row-preserved : goal.loop-row-preserved
 loop-row-preserved g c =
     let p = g.P.Printer in
     let ns = g.S.Store.names c.args.store.now in
-    prints_as p (card_more ns c.args.rows.now c.loop-row.row-index c.row-item.result c.loop-row-test.true c.row-item.is (value_means c.read.result) c.read.ensures) refl (prints_then p c.loop-row.invariant c.in-ok-print-entry.ensures)
+    prints_as p (card_more ns c.args.rows.now c.loop-row.row-index c.row-item.result c.loop-row-test.true c.row-item.is (value_means c.read.result) c.read.ensures) refl (prints_then p c.loop-row.invariant c.in_ok-print_entry.ensures)
 
-pub returns-in-err-print-entry : goal.returns-in-err-print-entry
-returns-in-err-print-entry g c =
+pub returns-in_err-print_entry : goal.returns-in_err-print_entry
+returns-in_err-print_entry g c =
     let p = g.P.Printer in
     let ns = g.S.Store.names c.args.store.now in
     let rows = c.args.rows.now in
     let i = c.loop-row.row-index in
     prints_broke p (card_form ns (keys_of (drop (i + 1) rows)))
     (ap (λ t. t ++ card_form ns (keys_of (drop (i + 1) rows))) (card_more ns rows i c.row-item.result c.loop-row-test.true c.row-item.is (value_means c.read.result) c.read.ensures) ∙ card_split ns rows (i + 1))
-    c.from-residual.ensures.1 (prints_then p c.loop-row.invariant c.in-err-print-entry.ensures)
+    c.from_residual.ensures.1 (prints_then p c.loop-row.invariant c.in_err-print_entry.ensures)
 
 pub returns : goal.returns
 returns g c =

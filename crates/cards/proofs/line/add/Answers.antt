@@ -6,17 +6,17 @@ use Rattle.refusals.proofs.Answered.{answered_ok, answered_err, handed_on, done}
 use Rattle.values.specs.Means.{element_means, value_means}
 use Rattle.cards.proofs.line.add.Goals as goal
 
-pub returns-in-err-element : goal.returns-in-err-element
-returns-in-err-element c =
-    let f = c.in-err-element.field-0.0 in
-    let p = answered_err _ _ BadValue f (sym c.in-err-element.ensures) in
+pub returns-in_err-element : goal.returns-in_err-element
+returns-in_err-element c =
+    let f = c.in_err-element.field-0.0 in
+    let p = answered_err _ _ BadValue f (sym c.in_err-element.ensures) in
     let bad = and_left _ _ p.0 in
-    record { answer = handed_on f c.from-residual.result c.from-residual.ensures.1 ∙ ap Err p.1 ∙ sym (ap (λ b. answered b tt BadValue) bad); left = sym (cond-false _ _ _ bad) }
+    record { answer = handed_on f c.from_residual.result c.from_residual.ensures.1 ∙ ap Err p.1 ∙ sym (ap (λ b. answered b tt BadValue) bad); left = sym (cond-false _ _ _ bad) }
 
 pub returns-in-Ok : goal.returns-in-Ok
 returns-in-Ok c =
     let v = value_means c.args.value.now in
-    let p = done _ _ (element_means c.in-ok-element.element) BadValue c.in-ok-element.ensures in
+    let p = done _ _ (element_means c.in_ok-element.element) BadValue c.in_ok-element.ensures in
     let room = answered_ok _ tt tt TooManyElements (sym c.in-Ok.ensures.answer) in
     let both = and_from _ _ p.0 room in
     record { answer = sym (ap (λ b. answered b tt BadValue) both); left = c.push.ensures.left ∙ cond-true _ _ _ room ∙ ap (λ e. v ++ e ∷ []) p.1 ∙ sym (cond-true _ _ _ both) }

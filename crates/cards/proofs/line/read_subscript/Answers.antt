@@ -11,4 +11,4 @@ pub returns : goal.returns
 returns c =
     let bs = c.args.bytes.now in
     let cut = c.in-Some.ensures in
-    c.written-number.ensures ∙ subscript_here bs c.in-Some.end cut _ (front_part bs c.in-Some.end cut) c.if-end-bytes.false
+    c.written_number.ensures ∙ subscript_here bs c.in-Some.end cut _ (front_part bs c.in-Some.end cut) c.if-end-bytes.false

@@ -4,17 +4,17 @@ use Rattle.numbers.specs.Numbers.{digits}
 use Rattle.numbers.proofs.Digits.{digits_step}
 use Rattle.numbers.proofs.read.all_digits.Goals as goal
 
-pub returns-then-not-is-digit : goal.returns-then-not-is-digit
-returns-then-not-is-digit c =
+pub returns-then-not-is_digit : goal.returns-then-not-is_digit
+returns-then-not-is_digit c =
     let bs = c.args.bytes.now in
     let i = c.loop-b.b-index in
-    sym (sym c.loop-b.invariant ∙ digits_step bs i c.loop-b-test.true ∙ ap (λ b. b && digits (drop (i + 1) bs)) (sym c.if-not-is-digit.ensures))
+    sym (sym c.loop-b.invariant ∙ digits_step bs i c.loop-b-test.true ∙ ap (λ b. b && digits (drop (i + 1) bs)) (sym c.if-not-is_digit.ensures))
 
 pub loop-b-preserved : goal.loop-b-preserved
 loop-b-preserved c =
     let bs = c.args.bytes.now in
     let i = c.loop-b.b-index in
-    sym (digits_step bs i c.loop-b-test.true ∙ ap (λ b. b && digits (drop (i + 1) bs)) (sym c.if-not-is-digit.ensures)) ∙ c.loop-b.invariant
+    sym (digits_step bs i c.loop-b-test.true ∙ ap (λ b. b && digits (drop (i + 1) bs)) (sym c.if-not-is_digit.ensures)) ∙ c.loop-b.invariant
 
 pub returns : goal.returns
 returns c = sym (sym c.loop-b.invariant ∙ at_drop_all digits c.args.bytes.now c.loop-b.b-index c.loop-b-test.false)

@@ -5,8 +5,8 @@ use Rattle.numbers.specs.Numbers.{digits, read_on}
 use Rattle.numbers.proofs.Digits.{digits_parts, read_step, read_grows}
 use Rattle.numbers.proofs.read.magnitude.Goals as goal
 
-pub overflow-sub-n : goal.overflow-sub-n
-overflow-sub-n c = (digits_parts c.args.bytes.now c.loop-b.b-index c.loop-b-test.true c.loop-b.invariant.2).0
+pub overflow_sub-n : goal.overflow_sub-n
+overflow_sub-n c = (digits_parts c.args.bytes.now c.loop-b.b-index c.loop-b-test.true c.loop-b.invariant.2).0
 
 pub returns-then-n : goal.returns-then-n
 returns-then-n c =

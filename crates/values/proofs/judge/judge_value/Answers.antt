@@ -10,29 +10,29 @@ use Rattle.values.proofs.judge.judge_value.Goals as goal
 pub loop-g-init : goal.loop-g-init
 loop-g-init c = (omega arith, c.new-value.ensures, refl)
 
-pub returns-in-err-element : goal.returns-in-err-element
-returns-in-err-element c =
+pub returns-in_err-element : goal.returns-in_err-element
+returns-in_err-element c =
     let gs = c.args.given.now in
     let l = c.loop-g in
-    let f = c.in-err-element.field-0.0 in
-    let p = answered_err _ _ BadValue f (sym c.in-err-element.ensures) in
+    let f = c.in_err-element.field-0.0 in
+    let p = answered_err _ _ BadValue f (sym c.in_err-element.ensures) in
     let bad = refused_element gs l.g-index _ c.loop-g-test.true l.invariant.2 p.0 in
-    ap (meant value_means) (handed_on f c.from-residual.result c.from-residual.ensures.1) ∙ ap Err p.1 ∙ sym (ap (λ b. answered b (elements_of gs) BadValue) bad)
+    ap (meant value_means) (handed_on f c.from_residual.result c.from_residual.ensures.1) ∙ ap Err p.1 ∙ sym (ap (λ b. answered b (elements_of gs) BadValue) bad)
 
-pub returns-then-is-err : goal.returns-then-is-err
-returns-then-is-err c =
+pub returns-then-is_err : goal.returns-then-is_err
+returns-then-is_err c =
     let gs = c.args.given.now in
     let l = c.loop-g in
-    let full = not_done _ _ c.push.result c.push.ensures.answer (sym c.if-is-err.ensures.value) in
+    let full = not_done _ _ c.push.result c.push.ensures.answer (sym c.if-is_err.ensures.value) in
     sym (ap (λ b. answered b (elements_of gs) BadValue) (seventeenth gs l.g-index (record { number = None; text = None }) c.loop-g-test.true (value_means l.value) l.invariant.1 full))
 
 pub loop-g-preserved : goal.loop-g-preserved
 loop-g-preserved c =
     let gs = c.args.given.now in
     let l = c.loop-g in
-    let p = done _ _ (element_means c.in-ok-element.element) BadValue c.in-ok-element.ensures in
-    let room = done_unit _ _ c.push.result c.push.ensures.answer (sym c.if-is-err.ensures.value) in
-    let q = one_more gs l.g-index _ c.loop-g-test.true (value_means l.value) _ (element_means c.in-ok-element.element) l.invariant.1 p.1 room c.push.ensures.left in
+    let p = done _ _ (element_means c.in_ok-element.element) BadValue c.in_ok-element.ensures in
+    let room = done_unit _ _ c.push.result c.push.ensures.answer (sym c.if-is_err.ensures.value) in
+    let q = one_more gs l.g-index _ c.loop-g-test.true (value_means l.value) _ (element_means c.in_ok-element.element) l.invariant.1 p.1 room c.push.ensures.left in
     (q.0, q.1, next_element gs l.g-index _ c.loop-g-test.true l.invariant.2 p.0)
 
 pub returns : goal.returns

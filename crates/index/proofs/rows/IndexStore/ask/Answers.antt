@@ -14,7 +14,7 @@ returns-in-Ok g c =
     let k = key_means c.args.key.now in
     let i = c.in-Ok.at in
     let d = c.index-rows-at.result in
-    let is = c.as-slice-rows.ensures in
+    let is = c.as_slice-rows.ensures in
     sym (lookup_at key_order entry_means (items s.rows) k s.sorted i d (subst (λ t. Found t k i) is c.in-Ok.ensures) ∙ ap (λ t. Some (value_means (get_or t i d).value)) (sym is))
 
 pub returns-in-Err : goal.returns-in-Err
@@ -22,4 +22,4 @@ returns-in-Err g c =
     let s = c.args.self.now in
     let k = key_means c.args.key.now in
     let i = c.in-Err.field-0 in
-    sym (missing_value (items s.rows) k s.sorted i (subst (λ t. Missing t k i) c.as-slice-rows.ensures c.in-Err.ensures))
+    sym (missing_value (items s.rows) k s.sorted i (subst (λ t. Missing t k i) c.as_slice-rows.ensures c.in-Err.ensures))

@@ -12,4 +12,4 @@ tells words word d (Ok i) s h = sym (found word_means word words i d h.0 (h.1 d)
 tells words word d (Err i) s h = sym (missing word_means word words i (h.1 s).0 (h.1 s).1)
 
 pub returns : goal.returns
-returns c = c.is-ok.ensures.value ∙ tells c.args.words.now c.args.word.now record { bytes = record { ref_ptr = (0, 0); now = c.args.word.now } } c.search.result c.requires c.search.ensures
+returns c = c.is_ok.ensures.value ∙ tells c.args.words.now c.args.word.now record { bytes = record { ref_ptr = (0, 0); now = c.args.word.now } } c.search.result c.requires c.search.ensures

@@ -6,11 +6,16 @@ use Rattle.papers.specs.Rows.{written}
 use Rattle.papers.proofs.Flat.{wide_set, wide_at, length-written, written_more}
 use Rattle.papers.proofs.board.BoardPrinter.put.Goals as goal
 
-pub invariant-of-self : goal.invariant-of-self
-invariant-of-self g c =
+pub invariant_of-self : goal.invariant_of-self
+invariant_of-self g c =
     let s = c.args.self.now in
     let at = s.len / 32 in
-    (wide_set s.rows at _ s.wide (length-set (get_or s.rows at _) _ _ ∙ wide_at s.rows at _ s.wide (omega arith)), (length-set s.rows _ _ ∙ s.sized, (omega arith, (s.lawful, tt))))
+    record {
+      wide = wide_set s.rows at _ s.wide (length-set (get_or s.rows at _) _ _ ∙ wide_at s.rows at _ s.wide (omega arith));
+      sized = length-set s.rows _ _ ∙ s.sized;
+      within = omega arith;
+      lawful = s.lawful;
+    }
 
 pub returns-then-at : goal.returns-then-at
 returns-then-at g c =

@@ -11,10 +11,10 @@ returns-in-Some g c =
     let k = key_means c.args.key.now in
     let i = c.in-Some.at in
     let d = c.index-rows-at.result in
-    let is = c.as-slice-rows.ensures in
+    let is = c.as_slice-rows.ensures in
     sym (first_canon (items c.args.self.now.rows) k i d (subst (λ t. FirstAt t k (Some i)) is c.in-Some.ensures) ∙ ap (λ t. Some (value_means (get_or t i d).value)) (sym is))
 
 pub returns-in-None : goal.returns-in-None
 returns-in-None g c =
     let k = key_means c.args.key.now in
-    sym (none_canon (items c.args.self.now.rows) k (subst (λ t. FirstAt t k None) c.as-slice-rows.ensures c.in-None.ensures))
+    sym (none_canon (items c.args.self.now.rows) k (subst (λ t. FirstAt t k None) c.as_slice-rows.ensures c.in-None.ensures))

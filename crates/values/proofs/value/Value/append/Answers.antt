@@ -8,12 +8,12 @@ pub returns-then-append : goal.returns-then-append
 returns-then-append c =
     let xs = items c.args.self.now.elements in
     let ys = items c.args.other.now.elements in
-    let zs = c.as-slice.result.now in
-    guarded (map element_means) c.if-append.ensures (room_behind element_means 16 xs ys zs (simp length-take (omega arith)) c.as-slice.ensures) (map_behind element_means xs ys zs c.as-slice.ensures)
+    let zs = c.as_slice.result.now in
+    guarded (map element_means) c.if-append.ensures (room_behind element_means 16 xs ys zs (simp length-take (omega arith)) c.as_slice.ensures) (map_behind element_means xs ys zs c.as_slice.ensures)
 
 pub returns-else-append : goal.returns-else-append
 returns-else-append c =
     let xs = items c.args.self.now.elements in
     let ys = items c.args.other.now.elements in
-    let zs = c.as-slice.result.now in
-    guarded (map element_means) c.if-append.ensures (room_behind element_means 16 xs ys zs (simp length-take (omega arith)) c.as-slice.ensures) (map_behind element_means xs ys zs c.as-slice.ensures)
+    let zs = c.as_slice.result.now in
+    guarded (map element_means) c.if-append.ensures (room_behind element_means 16 xs ys zs (simp length-take (omega arith)) c.as_slice.ensures) (map_behind element_means xs ys zs c.as_slice.ensures)
