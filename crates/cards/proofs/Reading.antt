@@ -1,5 +1,5 @@
 -- Keys and values, by where the bytes are cut. Assumes nothing.
-use Rattle.std.proofs.Common.{◌≡◌, ℕ, ◌+◌, ◌-◌, ◌<◌, ◌≤◌, Bool, true, false, cond, ◌&&◌, ◌||◌, eqb, ltb, List, [], ◌∷◌, ◌++◌, length, take, drop, Some, None, Ok, Err, Result, sym, refl, ap, ◌∙◌, arith, length-drop}
+use Rattle.std.proofs.Common.{◌≡◌, ℕ, ◌+◌, ◌-◌, ◌<◌, ◌≤◌, Bool, true, false, cond, ◌&&◌, eqb, ltb, List, [], ◌∷◌, ◌++◌, length, Some, None, Ok, Err, Result, sym, refl, ap, ◌∙◌, arith, length-drop}
 use Rattle.std.proofs.lemmas.Bool.{and_left, and_right, and_from, eq-eqb, ne_eqb, cond-true, cond-false}
 use Rattle.refusals.specs.Refusals.{answered, Guarded}
 use Rattle.refusals.specs.declared.Refusal.{Refusal}
@@ -8,7 +8,7 @@ use Rattle.refusals.specs.declared.Refusal.TheVariants.{BadName, BadValue}
 use Rattle.keys.specs.NameBytes.{lawful_name}
 use Rattle.values.specs.Forms.{Elem}
 use Rattle.cards.specs.Cuts.{has, before, behind, NotThere, Cut}
-use Rattle.cards.specs.Lines.{is_empty, written, fits, number, subscripts, key_in, lawful_piece, element, extended, pieces, elements_in, value_in}
+use Rattle.cards.specs.Lines.{is_empty, written, fits, number, subscripts, key_in, lawful_piece, element, pieces, elements_in, value_in}
 
 -- ---- subscripts
 

@@ -1,9 +1,9 @@
 -- Print forms, element by element. Assumes nothing.
-use Rattle.std.proofs.Common.{◌≡◌, ℕ, zero, suc, ◌+◌, ◌-◌, ◌*◌, ◌<◌, ◌≤◌, Bool, true, false, cond, ltb, leb, List, [], ◌∷◌, ◌++◌, map, length, get_or, take, sym, refl, ap, ◌∙◌, append_assoc, append-nil, arith, length-append, length-take}
+use Rattle.std.proofs.Common.{◌≡◌, ℕ, ◌+◌, ◌-◌, ◌*◌, ◌<◌, ◌≤◌, Bool, true, ltb, leb, List, [], ◌∷◌, ◌++◌, map, length, get_or, take, sym, ap, ◌∙◌, append_assoc, append-nil, arith, length-append, length-take}
 use lib.ListN.{length-map}
 use Rattle.std.proofs.lemmas.List.{take_more, get_or-map}
 use Rattle.std.proofs.lemmas.Bool.{le-leb, lt-ltb, cond-true}
-use Rattle.arrays.specs.Items.{items, Allowed}
+use Rattle.arrays.specs.Items.{Allowed}
 use Rattle.values.specs.Forms.{Elem, form, more, value_form}
 
 more_push : (es : List Elem) (e : Elem) → more (es ++ e ∷ []) ≡ more es ++ 44 ∷ form e

@@ -1,10 +1,10 @@
 -- Which words a sorted list has. Assumes nothing.
-use Rattle.std.proofs.Common.{◌≡◌, ℕ, zero, suc, ◌<◌, Bool, true, false, ◌||◌, List, [], ◌∷◌, map, length, get_or, take, drop, Less, sym, refl, ap, ◌∙◌, subst, ⊎_elim, arith}
+use Rattle.std.proofs.Common.{◌≡◌, ℕ, zero, suc, ◌<◌, true, false, List, [], ◌∷◌, map, length, get_or, take, drop, Less, sym, refl, ap, ◌∙◌, ⊎_elim, arith}
 use Rattle.std.specs.Ordering.{is_lt}
 use Rattle.std.proofs.lemmas.Bool.{and_parts, or_left, or_right, or_from, cases_Bool}
 use Rattle.order.specs.Made.{bytes_order}
 use Rattle.order.specs.Orders.{above, below}
-use Rattle.order.proofs.Sorting.{lt_is, flip_less}
+use Rattle.order.proofs.Sorting.{lt_is}
 use Rattle.std.specs.Str.{bytes_eq}
 use Rattle.std.proofs.lemmas.Slice.Eq.{bytes_eq-Decides}
 use Rattle.keys.specs.NameBytes.{one_of}

@@ -1,5 +1,5 @@
 -- The last element of a list is the top of the stack. Assumes nothing.
-use Rattle.std.proofs.Common.{◌≡◌, ℕ, ◌+◌, ◌-◌, ◌<◌, ◌≤◌, List, [], ◌∷◌, ◌++◌, reverse, length, get_or, take, set, sym, ap, ◌∙◌, arith, length-take}
+use Rattle.std.proofs.Common.{◌≡◌, ℕ, ◌+◌, ◌-◌, ◌<◌, ◌≤◌, List, [], ◌∷◌, reverse, length, get_or, take, set, ap, ◌∙◌, arith, length-take}
 use Rattle.std.proofs.lemmas.List.{reverse-append, length-reverse, take_more, take_more_set}
 
 module _ {X : Type 0} (slots : List X) (len : ℕ) where

@@ -1,5 +1,5 @@
 -- What a stack holds. Assumes nothing.
-use Rattle.std.specs.Prelude.{◌≡◌, ℕ, List, [], ◌∷◌, reverse, length, take, Some, None, Option}
+use Rattle.std.specs.Prelude.{ℕ, List, [], ◌∷◌, reverse, length, take, Some, None, Option}
 use Rattle.stacks.specs.declared.Stack.{Stack}
 
 -- the elements, the top first

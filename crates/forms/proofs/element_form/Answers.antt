@@ -1,4 +1,4 @@
-use Rattle.std.proofs.Common.{◌≡◌, ◌-◌, ◌≤◌, true, leb, [], ◌++◌, length, drop, sym, ap, ◌∙◌, arith, length-drop, w64, to_z, of_z, rules}
+use Rattle.std.proofs.Common.{◌≡◌, ◌-◌, ◌≤◌, true, leb, [], ◌++◌, length, sym, ap, ◌∙◌, arith, length-drop, w64, to_z, of_z, rules}
 use Rattle.std.specs.Fmt.{signed_decimal}
 use Rattle.std.proofs.lemmas.Bool.{le-leb, cond-true}
 use Rattle.arrays.specs.Items.{items}

@@ -1,13 +1,7 @@
-use Rattle.std.proofs.Common.{◌≡◌, ℕ, ◌+◌, ◌-◌, true, List, length, take, drop, Ok, Err, Result, sym, ap, ◌∙◌}
+use Rattle.std.proofs.Common.{◌≡◌, ℕ, ◌+◌, ◌-◌, true, List, length, take, drop, sym, ap, ◌∙◌}
 use Rattle.std.proofs.lemmas.Bool.{cond-true}
 use Rattle.refusals.specs.Refusals.{meant}
-use Rattle.refusals.specs.declared.Refusal.{Refusal}
-use Rattle.refusals.specs.declared.Refusal.TheVariants.{BadValue}
 use Rattle.refusals.proofs.Answered.{handed_on}
-use Rattle.keys.specs.KeyMeans.{key_means}
-use Rattle.keys.specs.KeyOrder.{KeyName}
-use Rattle.values.specs.Forms.{Elem}
-use Rattle.values.specs.Means.{value_means}
 use Rattle.cards.specs.Cuts.{has, before, behind}
 use Rattle.cards.specs.Filed.{pair_means}
 use Rattle.cards.specs.Lines.{key_in, value_in, with_value, line_in}

@@ -1,4 +1,4 @@
-use Rattle.std.proofs.Common.{◌≡◌, ℕ, ◌+◌, ◌-◌, true, ◌&&◌, List, length, take, drop, Some, None, Ok, Err, sym, ap, ◌∙◌, w64, to_z, of_z, rules}
+use Rattle.std.proofs.Common.{◌≡◌, ◌+◌, ◌-◌, length, take, drop, Some, None, Ok, Err, sym, ap, ◌∙◌, w64, to_z, of_z, rules}
 use Rattle.std.proofs.lemmas.Bool.{and_from, and_left, and_right}
 use Rattle.arrays.proofs.Options.{some_cond, none_cond}
 use Rattle.refusals.specs.Refusals.{answered, meant}

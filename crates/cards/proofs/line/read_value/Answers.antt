@@ -1,4 +1,4 @@
-use Rattle.std.proofs.Common.{◌≡◌, ◌+◌, ◌-◌, [], ◌∷◌, length, take, drop, sym, ap, ◌∙◌}
+use Rattle.std.proofs.Common.{◌+◌, ◌-◌, [], length, take, drop, sym, ap, ◌∙◌}
 use Rattle.refusals.specs.Refusals.{meant}
 use Rattle.refusals.proofs.Answered.{handed_on}
 use Rattle.values.specs.Means.{value_means}

@@ -1,4 +1,4 @@
-use Rattle.std.proofs.Common.{length, drop, arith, length-drop}
+use Rattle.std.proofs.Common.{drop, arith, length-drop}
 use Rattle.std.proofs.lemmas.List.{take_all}
 use Rattle.numbers.proofs.Numeral.as_bytes.Goals as goal
 

@@ -1,4 +1,4 @@
-use Rattle.std.proofs.Common.{◌≡◌, ◌^◌, ◌≤◌, ◌∷◌, nat_abs, decimal, sym, ap, ◌∙◌, arith, w64}
+use Rattle.std.proofs.Common.{◌≤◌, ◌∷◌, nat_abs, decimal, sym, ap, ◌∙◌, arith, w64}
 use Rattle.std.proofs.lemmas.Int.{to_z-of_z}
 use Rattle.numbers.proofs.Spelled.{sign_room, sign_first, signed_below, signed_above}
 use Rattle.numbers.proofs.Numeral.new.Goals as goal

@@ -1,9 +1,9 @@
-use Rattle.std.proofs.Common.{◌≡◌, ℕ, ◌-◌, ◌^◌, ◌<◌, ◌≤◌, Bool, true, false, cond, leb, List, Some, None, Err, sym, ap, ◌∙◌, arith}
+use Rattle.std.proofs.Common.{◌≡◌, ℕ, ◌-◌, ◌^◌, ◌<◌, Bool, true, false, sym, ap, ◌∙◌, arith}
 use Rattle.std.proofs.lemmas.Bool.{cond-true, cond-false, leb-false, lt-leb}
 use Rattle.arrays.proofs.Options.{some_cond, none_cond}
 use Rattle.refusals.specs.Refusals.{answered}
 use Rattle.refusals.specs.declared.Refusal.TheVariants.{Overflow}
-use Rattle.numbers.specs.Numbers.{read_on, minus, unsigned, magnitude, in64, with_sign}
+use Rattle.numbers.specs.Numbers.{read_on, minus, magnitude, in64, with_sign}
 use Rattle.numbers.proofs.Digits.{reads_back}
 use Rattle.numbers.proofs.read.read_number.Goals as goal
 

@@ -1,4 +1,4 @@
-use Rattle.std.proofs.Common.{◌≡◌, false, None, Err, sym, refl, ap, ◌∙◌, arith}
+use Rattle.std.proofs.Common.{None, Err, sym, refl, ap, ◌∙◌, arith}
 use Rattle.refusals.specs.Refusals.{answered, meant}
 use Rattle.refusals.specs.declared.Refusal.TheVariants.{BadValue}
 use Rattle.refusals.proofs.Answered.{answered_err, handed_on, done, not_done, done_unit}

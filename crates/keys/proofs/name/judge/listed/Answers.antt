@@ -1,4 +1,4 @@
-use Rattle.std.proofs.Common.{◌≡◌, ℕ, true, List, map, is_ok, Ok, Err, Result, sym, refl, ◌∙◌}
+use Rattle.std.proofs.Common.{◌≡◌, ℕ, true, List, map, is_ok, Ok, Err, Result, sym, ◌∙◌}
 use Rattle.order.specs.Made.{bytes_order}
 use Rattle.order.specs.Orders.{sorted, Located}
 use Rattle.order.specs.WordMeans.{word_means}
