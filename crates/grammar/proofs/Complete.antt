@@ -12,8 +12,6 @@ use Rattle.tokens.specs.declared.operator.Sign.{Sign}
 use Rattle.tokens.specs.declared.operator.Sign.TheVariants as sign
 use Rattle.tokens.specs.declared.operator.Half.{Half}
 use Rattle.tokens.specs.declared.operator.Half.TheVariants as halved
-use Rattle.tokens.specs.declared.byte.Separator.{Separator}
-use Rattle.tokens.specs.declared.byte.Shape.TheVariants.{Round, Square, Curly}
 use Rattle.tokens.specs.declared.byte.Start.{Start}
 use Rattle.tokens.specs.declared.byte.Start.TheVariants as at
 use Rattle.tokens.specs.declared.byte.After.{After}

@@ -1,8 +1,8 @@
 -- The reading of worked examples, by computation. Assumes nothing.
-use Rattle.std.proofs.Common.{◌≡◌, ℕ, Bool, true, false, List, [], ◌∷◌, codes, refl}
+use Rattle.std.proofs.Common.{◌≡◌, Bool, true, false, [], ◌∷◌, refl}
 use Rattle.refusals.specs.declared.Refusal.TheVariants.{UnexpectedByte, UnmatchedBlock, BadNumber, TooLong, NestedTooDeep, BadCall}
 use Rattle.grammar.specs.Machine.{run, reading, accepted, refused, Out}
-use Rattle.grammar.specs.Rules.{broken, broken_items, open_blocks}
+use Rattle.grammar.specs.Rules.{open_blocks}
 
 is_accepted : Out → Bool
 is_accepted (accepted ts) = true

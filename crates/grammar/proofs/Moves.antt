@@ -1,20 +1,15 @@
 -- How the reading goes on, byte by byte. Assumes nothing.
-use Rattle.std.proofs.Common.{◌≡◌, ℕ, zero, suc, ◌+◌, ◌-◌, ◌<◌, ◌≤◌, Bool, true, false, cond, leb, ◌⊎◌, List, [], ◌∷◌, ◌++◌, length, get_or, drop, Option, sym, refl, ap, ◌∙◌, subst, inl, inr, ⊎_elim, arith}
+use Rattle.std.proofs.Common.{◌≡◌, ℕ, zero, suc, ◌+◌, ◌-◌, ◌<◌, ◌≤◌, Bool, true, List, [], length, get_or, drop, sym, refl, ap, ◌∙◌, ⊎_elim, arith}
 use Rattle.std.proofs.lemmas.List.{drop_more, drop_all}
 use Rattle.std.proofs.lemmas.Bool.{cond-true, cond-false, le-leb, lt-leb, cases_lt}
 use Rattle.refusals.specs.declared.Refusal.TheVariants.{UnexpectedByte}
 use Rattle.tokens.specs.declared.operator.Op.{Op}
 use Rattle.tokens.specs.declared.operator.Op.TheVariants as op
-use Rattle.tokens.specs.declared.operator.Sign.{Sign}
-use Rattle.tokens.specs.declared.byte.After.{After}
-use Rattle.tokens.specs.declared.byte.After.TheVariants as past
-use Rattle.tokens.specs.Bytes.{start, after, blank}
+use Rattle.tokens.specs.Bytes.{blank}
 use Rattle.tokens.specs.Operators.{level}
 use Rattle.trees.specs.Tree.{Expr, Item, Items}
-use Rattle.grammar.specs.Rules.{Broken}
-use Rattle.grammar.specs.Machine
-use Rattle.grammar.specs.Machine.{Stack, Config, Move, stop, go, Run, Out, refused, run, onward, judged, finished, finish, step, late, reduce, pushed, afters, nameds, wants, firsts, lasts, bares, closes, parts, completes, quotes}
-use Rattle.grammar.specs.Grammar.{Every, Blanks}
+use Rattle.grammar.specs.Machine.{Stack, Config, Move, stop, go, Run, Out, refused, run, onward, judged, finished, finish, step, late, reduce, afters, nameds, wants, firsts, lasts}
+use Rattle.grammar.specs.Grammar.{Blanks}
 
 -- the answer to a move at p, with the bytes bs behind it
 abbrev pub reacts_on : Bool → List ℕ → ℕ → Move → Out

@@ -5,16 +5,15 @@ use Rattle.keywords.specs.declared.Keyword.TheVariants as keyword
 use Rattle.tokens.specs.declared.operator.Half.{Half}
 use Rattle.tokens.specs.declared.byte.Class.{Class}
 use Rattle.tokens.specs.declared.byte.Class.TheVariants as is
-use Rattle.tokens.specs.Bytes.{class, blank, digit, letter, word}
+use Rattle.tokens.specs.Bytes.{blank, digit, letter, word}
 use Rattle.tokens.specs.Operators.{half_byte}
 use Rattle.trees.specs.declared.Constant.{Constant}
 use Rattle.trees.specs.declared.Quote.{Quote}
 use Rattle.trees.specs.Tree.{Key, Expr, Args, Seq, Item, Items}
 use Rattle.grammar.specs.Rules.{Broken}
-use Rattle.grammar.specs.Machine.{Stack, Bracket, Run, Numbered, Join, Quoted, Digits, Config, Move, stop, go, reading, late, complete, sign, constant, worded, piece}
+use Rattle.grammar.specs.Machine.{Stack, Bracket, Run, Numbered, Join, Quoted, Digits, Config, Move, stop, go, late, constant}
 use Rattle.grammar.specs.Grammar
 use Rattle.grammar.specs.Grammar.{At, Every, Blanks, part, digit_in, valued, Numeral, Name, Command, Chars, Text, Spells, Keyed, Arguments, Groups, Group, Commas, Dots, Says, Plainly, Lines, Body, Begun}
-use Rattle.grammar.proofs.Moves.{on}
 use Rattle.grammar.proofs.Upto.{Counted, one, more, Upto, every_none}
 
 -- a bracket with nothing in it yet

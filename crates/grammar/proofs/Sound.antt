@@ -5,7 +5,6 @@ use Rattle.refusals.specs.declared.Refusal.{Refusal}
 use Rattle.tokens.specs.declared.byte.Class.{Class}
 use Rattle.tokens.specs.declared.byte.Class.TheVariants as is
 use Rattle.tokens.specs.Bytes.{start, after, class, blank}
-use Rattle.trees.specs.declared.Quote.{Quote}
 use Rattle.trees.specs.Tree.{Item, Items}
 use Rattle.grammar.specs.Rules.{Broken}
 use Rattle.grammar.specs.Machine.{Stack, Head, Config, Move, stop, go, Out, accepted, refused, onward, reading, judged, finish, finished, step, row, piece}

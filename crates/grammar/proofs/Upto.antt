@@ -20,7 +20,6 @@ use Rattle.tokens.specs.declared.byte.After.TheVariants as past
 use Rattle.tokens.specs.declared.byte.Class.TheVariants as is
 use Rattle.tokens.specs.Bytes.{start, after, class, blank, digit, letter, word, digit_value}
 use Rattle.tokens.specs.Operators.{level, sign_byte, half_byte}
-use Rattle.trees.specs.declared.Quote.{Quote}
 use Rattle.trees.specs.Tree.{Key, Expr, Args, Seq, Items}
 use Rattle.grammar.specs.Machine.{Stack, Bracket, Head, function, reduce}
 use Rattle.grammar.specs.Grammar

@@ -1,7 +1,7 @@
 -- The grammar of templates: which tree stands in a text, from place i to place j. The rules 4 to 8 are not part of it: a name or
 -- constant has any length, brackets nest to any depth, any name is a function with any number of arguments, and blocks need not match
 -- (Rules.antt has those rules). Assumes nothing.
-use Rattle.std.specs.Prelude.{◌≡◌, ℕ, suc, ◌+◌, ◌-◌, ◌*◌, ◌<◌, ◌≤◌, Bool, true, false, cond, ◌||◌, ◌⊎◌, List, [], ◌∷◌, length, Some, None, Option, ◌≢◌, nat_lt, slice_index, slice_range}
+use Rattle.std.specs.Prelude.{◌≡◌, ℕ, ◌+◌, ◌*◌, ◌<◌, ◌≤◌, Bool, true, false, ◌⊎◌, List, [], ◌∷◌, length, Some, None, ◌≢◌, nat_lt, slice_index, slice_range}
 use Rattle.keywords.specs.declared.Keyword.{Keyword}
 use Rattle.keywords.specs.declared.Keyword.TheVariants as keyword
 use Rattle.tokens.specs.declared.operator.Op.{Op}

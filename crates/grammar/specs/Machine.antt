@@ -1,7 +1,7 @@
 -- The reading of a template as a machine that takes one byte at a time. Assumes nothing.
 -- `step` knows the grammar alone: it stops at the byte with which no template goes on (number 3). Beside the next configuration it
 -- says which of the rules 4 to 8 fall due at this byte as broken. So the order of the refusals is `run`: 3 comes first, then what is due.
-use Rattle.std.specs.Prelude.{ℕ, zero, suc, ◌+◌, ◌-◌, ◌*◌, Bool, true, false, cond, ◌&&◌, ◌||◌, List, [], ◌∷◌, ◌++◌, drop, Some, None, Option, ◌==◌, nat_le, nat_lt}
+use Rattle.std.specs.Prelude.{ℕ, zero, suc, ◌+◌, ◌-◌, ◌*◌, Bool, true, false, cond, ◌||◌, List, [], ◌∷◌, ◌++◌, drop, Some, None, Option, ◌==◌, nat_le, nat_lt}
 use Rattle.order.specs.Made.{bytes_order}
 use Rattle.order.specs.Names.{lookup}
 use Rattle.functions.specs.declared.Signature.{Signature}
@@ -30,7 +30,7 @@ use Rattle.tokens.specs.Operators.{level, doubled, alone}
 use Rattle.trees.specs.declared.Constant.{Constant}
 use Rattle.trees.specs.declared.Quote.{Quote}
 use Rattle.trees.specs.Tree.{Key, Expr, Args, Seq, Opening, Item, Items, count_args}
-use Rattle.grammar.specs.Rules.{Rule, refusal_of, Broken, large, lengthy, wide, long, deep, known, counted, arrival, broken_number, open_blocks, room, in_choice, in_block, unclosed}
+use Rattle.grammar.specs.Rules.{refusal_of, Broken, large, lengthy, wide, long, deep, known, counted, arrival, broken_number, open_blocks, room, in_choice, in_block, unclosed}
 
 -- a bracket that stands open, with its place and what it holds so far
 pub data Bracket : Type 0 where

@@ -1,6 +1,6 @@
 -- The rules of reading beyond the grammar (numbers 4 to 8): which of them a tree breaks, what each names, and the byte at which it
 -- falls due. They are listed in the order in which they fall due, at one byte the smaller number first. Assumes nothing.
-use Rattle.std.specs.Prelude.{ℕ, suc, ◌+◌, ◌-◌, ◌%◌, Bool, true, false, cond, ◌&&◌, List, [], ◌∷◌, ◌++◌, length, Some, None, Option, ◌==◌, nat_le, nat_lt}
+use Rattle.std.specs.Prelude.{ℕ, suc, ◌-◌, ◌%◌, Bool, true, false, cond, ◌&&◌, List, [], ◌∷◌, ◌++◌, length, Some, None, Option, ◌==◌, nat_le, nat_lt}
 use Rattle.functions.specs.declared.Signature.{Signature}
 use Rattle.refusals.specs.declared.Refusal.{Refusal}
 use Rattle.refusals.specs.declared.Refusal.TheVariants.{UnmatchedBlock, BadNumber, TooLong, NestedTooDeep, BadCall}
