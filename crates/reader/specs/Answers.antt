@@ -5,7 +5,7 @@ use Rattle.trees.specs.Tree.{Items, Block, written}
 use Rattle.trees.specs.Flat.{flatten_block}
 use Rattle.trees.specs.Counts.{nodes_block, need_block}
 use Rattle.trees.specs.Laid.{laid}
-use Rattle.grammar.specs.Rules.{Rule, refusal_of, Broken, broken_rules}
+use Rattle.grammar.specs.Rules.{Rule, refusal_of, broken_rules}
 use Rattle.grammar.specs.Machine.{reading, accepted, refused}
 use Rattle.grammar.specs.Grammar.{Template}
 use Rattle.grammar.specs.Laws.{Viable, Dead, NothingDue, Earliest}

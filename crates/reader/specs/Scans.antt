@@ -1,10 +1,9 @@
 -- What the cursor's functions say of the bytes they pass. Assumes nothing.
-use Rattle.std.specs.Prelude.{◌≡◌, ℕ, ◌+◌, ◌-◌, ◌*◌, ◌<◌, ◌≤◌, Bool, true, false, cond, ◌&&◌, ◌||◌, ltb, List, [], ◌∷◌, length, Some, None, Ok, Err, Option, Result, ◌==◌, nat_le, nat_lt, slice_index}
+use Rattle.std.specs.Prelude.{◌≡◌, ℕ, ◌+◌, ◌<◌, ◌≤◌, Bool, true, false, cond, ◌&&◌, ◌||◌, ltb, List, length, Some, None, Ok, Err, Option, Result, ◌==◌, nat_le, nat_lt, slice_index}
 use Rattle.refusals.specs.declared.Refusal.{Refusal}
 use Rattle.refusals.specs.declared.Refusal.TheVariants.{UnexpectedByte}
 use Rattle.tokens.specs.declared.operator.Op.{Op}
 use Rattle.tokens.specs.declared.operator.Op.TheVariants as op
-use Rattle.tokens.specs.declared.operator.Half.{Half}
 use Rattle.tokens.specs.declared.operator.Half.TheVariants as halved
 use Rattle.tokens.specs.declared.byte.Start.{Start}
 use Rattle.tokens.specs.declared.byte.Start.TheVariants as at
@@ -17,7 +16,7 @@ use Rattle.tokens.specs.declared.byte.Shape.TheVariants.{Round, Square, Curly}
 use Rattle.tokens.specs.Bytes.{start, after, blank, word, digit_value}
 use Rattle.tokens.specs.Operators.{level, doubled, alone}
 use Rattle.trees.specs.declared.Quote.{Quote}
-use Rattle.grammar.specs.Machine.{Digits, nought, prefix, digits, Config, in_number, in_text, quoted, want, Numbered, Quoted as Goal, step, onward, refused, first_digit}
+use Rattle.grammar.specs.Machine.{Digits, nought, prefix, digits, in_number, in_text, quoted, Numbered, Quoted as Goal, onward, refused, first_digit}
 use Rattle.grammar.specs.Grammar.{Blanks, Every}
 use Rattle.reader.specs.declared.cursor.Cursor.{Cursor}
 use Rattle.reader.specs.declared.cursor.Inside.{Inside}
@@ -25,7 +24,6 @@ use Rattle.reader.specs.declared.cursor.Inside.TheVariants as inside
 use Rattle.reader.specs.declared.cursor.Follow.{Follow}
 use Rattle.reader.specs.declared.cursor.Follow.TheVariants as follow
 use Rattle.reader.specs.declared.cursor.Numeral.{Numeral}
-use Rattle.reader.specs.declared.cursor.State.{State}
 use Rattle.reader.specs.declared.cursor.State.TheVariants.{Instruction}
 use Rattle.reader.specs.declared.fault.Fault.{Fault}
 use Rattle.reader.specs.States.{fault, at_pos}

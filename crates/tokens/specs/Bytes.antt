@@ -1,5 +1,5 @@
 -- What a byte is. Assumes nothing.
-use Rattle.std.specs.Prelude.{ℕ, ◌-◌, Bool, true, false, cond, ◌&&◌, ◌||◌, ◌==◌, nat_le}
+use Rattle.std.specs.Prelude.{ℕ, ◌-◌, Bool, cond, ◌&&◌, ◌||◌, ◌==◌, nat_le}
 use Rattle.tokens.specs.declared.operator.Op.TheVariants as op
 use Rattle.tokens.specs.declared.operator.Sign.TheVariants as sign
 use Rattle.tokens.specs.declared.operator.Half.TheVariants as half

@@ -1,5 +1,5 @@
 -- What a template needs of a till: nodes and stack. Assumes nothing.
-use Rattle.std.specs.Prelude.{ℕ, suc, ◌+◌, max, cond}
+use Rattle.std.specs.Prelude.{ℕ, ◌+◌, max, cond}
 use Rattle.tokens.specs.Operators.{is_short}
 use Rattle.trees.specs.Tree.{Key, Expr, Args, Seq, Block, Statement, Arms, count_args}
 

@@ -1,14 +1,12 @@
 -- The nodes that a tree is kept as. Assumes nothing.
-use Rattle.std.specs.Prelude.{ℕ, suc, ◌+◌, ◌-◌, cond, eqb, List, [], ◌∷◌, ◌++◌, length, get_or, set, Some, None, Option}
+use Rattle.std.specs.Prelude.{ℕ, ◌+◌, cond, List, [], ◌∷◌, ◌++◌, length, Some, None, Option}
 use Rattle.functions.specs.declared.Signature.{Signature}
 use Rattle.functions.specs.declared.Function.TheVariants as function
 use Rattle.tokens.specs.declared.operator.Op.{Op}
 use Rattle.tokens.specs.Operators.{is_short}
 use Rattle.trees.specs.declared.Node.{Node}
 use Rattle.trees.specs.declared.Node.TheVariants as node
-use Rattle.trees.specs.declared.Constant.{Constant}
-use Rattle.trees.specs.declared.Quote.{Quote}
-use Rattle.trees.specs.Tree.{Key, Expr, Args, Seq, Opening, Item, Items, Block, Statement, Arms, count_args}
+use Rattle.trees.specs.Tree.{Key, Expr, Args, Seq, Opening, Block, Statement, Arms, count_args}
 
 -- what stands after the left side of an operator: `&&` and `||` stand before their right side and can skip it, the others after it
 abbrev pub rest : ℕ → Op → List Node → List Node

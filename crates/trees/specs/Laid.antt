@@ -3,7 +3,7 @@
 use Rattle.std.specs.Prelude.{ℕ, suc, ◌+◌, ◌-◌, max, Bool, true, false, cond, List, [], ◌∷◌, ◌++◌, length, slice_set}
 use Rattle.trees.specs.declared.Node.{Node}
 use Rattle.trees.specs.declared.Node.TheVariants as node
-use Rattle.trees.specs.Tree.{Key, Expr, Opening, Item, Items}
+use Rattle.trees.specs.Tree.{Expr, Opening, Item, Items}
 use Rattle.trees.specs.Flat.{flatten, flatten_target, assign_node, opening_expr, opening_node}
 use Rattle.trees.specs.Counts.{need, need_assign}
 

@@ -1,7 +1,7 @@
 -- What a template says, as a tree. Number and text constants are the code's own structs. Assumes nothing.
 -- All numbers but the value of a number constant and the length of a text are places: offsets of bytes in the template, from 0.
 -- "From i to j" is from the byte at i up to the byte before j.
-use Rattle.std.specs.Prelude.{ℕ, suc, List, Option}
+use Rattle.std.specs.Prelude.{ℕ, suc, Option}
 use Rattle.functions.specs.declared.Signature.{Signature}
 use Rattle.tokens.specs.declared.operator.Op.{Op}
 use Rattle.tokens.specs.declared.operator.Sign.{Sign}
