@@ -1,5 +1,5 @@
 // What an `ArrayVec` can do. Each change tells whether it was made; refused, it changes nothing.
-ghost use Rattle.std.specs.Prelude.{◌≡◌, ◌-◌, ◌&&◌, leb, [], ◌∷◌, ◌++◌, length, if◌then◌else◌, Some, None, nat_le, nat_lt, slice_set};
+ghost use Rattle.std.specs.Prelude.{◌≡◌, ◌-◌, ◌&&◌, [], ◌∷◌, ◌++◌, length, if◌then◌else◌, Some, None, nat_le, nat_lt, slice_set};
 ghost use Rattle.std.specs.Option.{option_map};
 ghost use Rattle.std.specs.List.{insert, remove, swap_remove};
 ghost use Rattle.arrays.specs.Items.{items, Allowed};
@@ -58,7 +58,7 @@ impl<T: Copy, const N: usize> ArrayVec<T, N> {
 
     // A vector of the given elements, where there is room for them.
     pub fn from_slice(filler: T, from: &[T]) -> Option<Self>
-        ensures { option_map items result ≡ (if leb (length from.now) N then Some from.now else None) }
+        ensures { option_map items result ≡ (if nat_le (length from.now) N then Some from.now else None) }
     {
         let mut vec = ArrayVec::new(filler);
         if vec.append(from) { Some(vec) } else { None }

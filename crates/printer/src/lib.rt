@@ -1,7 +1,7 @@
 // What a printer is: the bytes that it has taken, within a fixed capacity.
 #![tactic(auto)]
 
-ghost use Rattle.std.specs.Prelude.{◌≡◌, ℕ, ◌≤◌, Bool, true, ltb, List, [], ◌∷◌, ◌++◌, length, if◌then◌else◌, Err, nat_lt};
+ghost use Rattle.std.specs.Prelude.{◌≡◌, ℕ, ◌≤◌, Bool, true, List, [], ◌∷◌, ◌++◌, length, if◌then◌else◌, Err, nat_lt};
 ghost use Rattle.refusals.specs.Refusals.{answered};
 ghost use Rattle.refusals.specs.declared.Refusal.TheVariants.{PaperFull};
 
@@ -29,7 +29,7 @@ pub trait Printer {
     // Adds a byte last, exactly where fewer bytes than the capacity stand; else 24, and nothing is changed.
     fn put(&mut self, byte: u8) -> Result<(), Refusal>
         ensures answer { result ≡ answered (nat_lt (length (taken self.old)) (capacity self.old)) tt PaperFull }
-        ensures taken { taken self.new ≡ (if ltb (length (taken self.old)) (capacity self.old) then taken self.old ++ byte ∷ [] else taken self.old) }
+        ensures taken { taken self.new ≡ (if nat_lt (length (taken self.old)) (capacity self.old) then taken self.old ++ byte ∷ [] else taken self.old) }
         ensures capacity { capacity self.new ≡ capacity self.old }
         ensures kept { result ≡ Err PaperFull → settled self.new ≡ settled self.old };
 
