@@ -18,22 +18,7 @@ pub done : {A : Type 0} (b : Bool) (a x : A) (f : Refusal) → Ok x ≡ answered
 done true a x f e = (refl, cc)
 done false a x f e = let z : ◌≡◌ {A = ℕ} 0 1 = cc in absurd (omega arith)
 
-pub not_done : (b : Bool) (f : Refusal) (r : Result (Unit {0}) Refusal) → r ≡ answered b tt f → is_err r ≡ true → b ≡ false
-not_done true f r e h = let s = sym h ∙ ap is_err e in cc
-not_done false f r e h = refl
-
-pub done_unit : (b : Bool) (f : Refusal) (r : Result (Unit {0}) Refusal) → r ≡ answered b tt f → is_err r ≡ false → b ≡ true
-done_unit true f r e h = refl
-done_unit false f r e h = let s = sym h ∙ ap is_err e in cc
-
 -- the answer that a `?` hands on
 pub handed_on : {A : Type 0} (f : Refusal) (r : Result A Refusal) → IsErrAnd r (λ y. y ≡ f) → r ≡ Err f
 handed_on f (Ok x) h = absurd h
 handed_on f (Err y) h = ap Err h
-
--- what finds room behind b of n places
-pub leb_shift : (a b n : ℕ) → b ≤ n → leb a (n - b) ≡ leb (b + a) n
-leb_shift a b n h = ⊎_elim
-    (λ e. let l = leb-true a (n - b) e in e ∙ sym (le-leb (b + a) n (omega arith)))
-    (λ e. let l = leb-false a (n - b) e in e ∙ sym (lt-leb (b + a) n (omega arith)))
-    (cases_Bool (leb a (n - b)))

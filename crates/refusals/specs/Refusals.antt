@@ -1,5 +1,5 @@
 -- The number and the layer of each refusal, and the answer of a call that may be refused. Assumes nothing.
-use Rattle.std.specs.Prelude.{◌≡◌, ℕ, Bool, true, false, cond, List, Ok, Err, codes, Result}
+use Rattle.std.specs.Prelude.{◌≡◌, ℕ, Bool, true, false, cond, List, ◌++◌, Ok, Err, codes, decimal, Result}
 use Rattle.refusals.specs.declared.Layer.{Layer}
 use Rattle.refusals.specs.declared.Layer.TheVariants.{Reader, Evaluator, Store, Printer}
 use Rattle.refusals.specs.declared.Refusal.{Refusal}
@@ -48,6 +48,10 @@ word_of Reader = codes "reader"
 word_of Evaluator = codes "evaluator"
 word_of Store = codes "store"
 word_of Printer = codes "printer"
+
+-- what a program reports of a refusal
+abbrev pub report_of : Refusal → List ℕ
+report_of f = codes "refused " ++ decimal (number_of f) ++ codes " in " ++ word_of (layer_of f)
 
 -- the answer of a call that is done where a test allows it, and else refused
 abbrev pub answered : {A : Type 0} → Bool → A → Refusal → Result A Refusal

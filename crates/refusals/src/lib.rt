@@ -1,8 +1,11 @@
 // What the part refuses: one enum for all layers, with a number and a layer for each case.
 #![tactic(auto)]
 
-ghost use Rattle.std.specs.Prelude.{◌≡◌};
-ghost use Rattle.refusals.specs.Refusals.{number_of, layer_of, word_of, OwnNumbers};
+ghost use Rattle.std.specs.Prelude.{◌≡◌, Some};
+ghost use Rattle.refusals.specs.Refusals.{number_of, layer_of, word_of, report_of, OwnNumbers};
+
+use std::error::Error;
+use std::fmt;
 
 // The layer that refuses.
 #[derive(Clone, Copy, PartialEq, Eq, Debug)]
@@ -15,15 +18,23 @@ pub enum Layer {
 
 impl Layer {
     // The layer's word in reports.
-    pub fn word(self) -> &'static [u8]
+    pub fn word(self) -> &'static str
         ensures { result.now ≡ word_of self }
     {
         match self {
-            Layer::Reader => b"reader",
-            Layer::Evaluator => b"evaluator",
-            Layer::Store => b"store",
-            Layer::Printer => b"printer",
+            Layer::Reader => "reader",
+            Layer::Evaluator => "evaluator",
+            Layer::Store => "store",
+            Layer::Printer => "printer",
         }
+    }
+}
+
+impl fmt::Display for Layer {
+    ghost output = { λ l. Some (word_of l) };
+
+    fn fmt<W: fmt::Write>(&self, f: &mut fmt::Formatter<W>) -> fmt::Result {
+        f.write_str(self.word())
     }
 }
 
@@ -31,92 +42,62 @@ impl Layer {
 #[derive(Clone, Copy, PartialEq, Eq, Debug)]
 pub enum Refusal {
     // a limit or a capacity is outside its range
-    OutOfRange,
+    OutOfRange = 1,
     // the template has more than 4,096 bytes
-    TemplateTooLong,
+    TemplateTooLong = 2,
     // a byte with which no template goes on, or an end where none can be
-    UnexpectedByte,
+    UnexpectedByte = 3,
     // a block is unmatched, unclosed or nested too deep
-    UnmatchedBlock,
+    UnmatchedBlock = 4,
     // a number constant is too large, or a sequence does not arrive
-    BadNumber,
+    BadNumber = 5,
     // a name or a constant is too long
-    TooLong,
+    TooLong = 6,
     // a thirteenth parenthesis, subscript, call or list inside one another
-    NestedTooDeep,
+    NestedTooDeep = 7,
     // an unknown function, or a wrong number of arguments
-    BadCall,
+    BadCall = 8,
     // a print before any template is held
-    NothingLoaded,
+    NothingLoaded = 9,
     // what has to be one element with a number is not
-    NotANumber,
+    NotANumber = 10,
     // a number is outside 64 bits
-    Overflow,
-    DivisionByZero,
+    Overflow = 11,
+    DivisionByZero = 12,
     // a shift by less than 0 or more than 63, or of a negative number to the left
-    BadShift,
+    BadShift = 13,
     // a value would have more than 16 elements
-    TooManyElements,
+    TooManyElements = 14,
     // a text would have more than 32 bytes
-    TextTooLong,
+    TextTooLong = 15,
     // a print form that has to be a sign and digits is not
-    NotDigits,
+    NotDigits = 16,
     // a name that no template could write
-    BadName,
+    BadName = 17,
     // a value with too many elements, too long a text or an element with nothing in it
-    BadValue,
+    BadValue = 18,
     // a key that is not set
-    UnsetKey,
+    UnsetKey = 19,
     // the template needs more nodes than the limit
-    TooManyNodes,
+    TooManyNodes = 20,
     // the template needs more stack than the limit
-    StackTooSmall,
+    StackTooSmall = 21,
     // the step limit is reached
-    OutOfSteps,
+    OutOfSteps = 22,
     // a new key in a full store
-    StoreFull,
+    StoreFull = 23,
     // a byte for a full printer
-    PaperFull,
+    PaperFull = 24,
 }
 
 impl Refusal {
     // The number by which reports name it. No two refusals share one.
+    #[tactic(auto, using(crate::proofs::Numbers::own_numbers))]
     pub fn number(self) -> u8
         ensures answer { result ≡ number_of self }
         ensures own { OwnNumbers }
     {
-        self.listed_number()
-    }
-
-    fn listed_number(self) -> u8
-        ensures { result ≡ number_of self }
-    {
-        match self {
-            Refusal::OutOfRange => 1,
-            Refusal::TemplateTooLong => 2,
-            Refusal::UnexpectedByte => 3,
-            Refusal::UnmatchedBlock => 4,
-            Refusal::BadNumber => 5,
-            Refusal::TooLong => 6,
-            Refusal::NestedTooDeep => 7,
-            Refusal::BadCall => 8,
-            Refusal::NothingLoaded => 9,
-            Refusal::NotANumber => 10,
-            Refusal::Overflow => 11,
-            Refusal::DivisionByZero => 12,
-            Refusal::BadShift => 13,
-            Refusal::TooManyElements => 14,
-            Refusal::TextTooLong => 15,
-            Refusal::NotDigits => 16,
-            Refusal::BadName => 17,
-            Refusal::BadValue => 18,
-            Refusal::UnsetKey => 19,
-            Refusal::TooManyNodes => 20,
-            Refusal::StackTooSmall => 21,
-            Refusal::OutOfSteps => 22,
-            Refusal::StoreFull => 23,
-            Refusal::PaperFull => 24,
-        }
+        self as u8
     }
 
     // The layer that refuses so.
@@ -150,3 +131,14 @@ impl Refusal {
         }
     }
 }
+
+// What a program reports.
+impl fmt::Display for Refusal {
+    ghost output = { λ f. Some (report_of f) };
+
+    fn fmt<W: fmt::Write>(&self, f: &mut fmt::Formatter<W>) -> fmt::Result {
+        write!(f, "refused {} in {}", self.number(), self.layer())
+    }
+}
+
+impl Error for Refusal {}
