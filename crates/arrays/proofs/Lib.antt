@@ -1,2 +1,3 @@
 pub mod Shifts
-pub mod Options
+pub mod Exchange
+pub mod Made

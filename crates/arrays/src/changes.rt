@@ -1,10 +1,10 @@
-// What an `ArrayVec` can do. Each change tells whether it was made; refused, it changes nothing.
-ghost use Rattle.std.specs.Prelude.{◌≡◌, ◌-◌, ◌&&◌, [], ◌∷◌, ◌++◌, length, if◌then◌else◌, Some, None, nat_le, nat_lt, slice_set};
-ghost use Rattle.std.specs.Option.{option_map};
+// What an `ArrayVec` can do. A change that is refused changes nothing.
+ghost use Rattle.std.specs.Prelude.{◌≡◌, ◌-◌, [], ◌∷◌, ◌++◌, length, nat_le, nat_lt, slice_set};
 ghost use Rattle.std.specs.List.{insert, remove, swap_remove};
-ghost use Rattle.arrays.specs.Items.{items, Allowed};
+ghost use Rattle.arrays.specs.Items.{items, items_of, roomy, Allowed, Inserts, Exchanged};
 
 use super::ArrayVec;
+use super::error::{CapacityError, InsertError};
 
 impl<T: Copy, const N: usize> ArrayVec<T, N> {
     // An empty vector; the slots hold `filler`.
@@ -26,96 +26,88 @@ impl<T: Copy, const N: usize> ArrayVec<T, N> {
     pub fn as_slice(&self) -> &[T]
         ensures { result.now ≡ items self.now }
     {
-        let slots = &self.slots[..];
-        &slots[0..self.len]
+        &self.slots[..self.len]
     }
 
     // One element more, last, where there is room.
-    pub fn push(&mut self, x: T) -> bool
+    pub fn push(&mut self, x: T) -> Result<(), CapacityError>
         ensures { Allowed (nat_lt (length (items self.old)) N) (items self.old) (items self.old ++ x ∷ []) (items self.new) result }
     {
         if self.len < N {
             self.slots[self.len] = x;
             self.len += 1;
-            true
+            Ok(())
         } else {
-            false
+            Err(CapacityError)
         }
     }
 
     // Elements more, last, where there is room for all of them; else none.
-    pub fn append(&mut self, more: &[T]) -> bool
+    pub fn append(&mut self, more: &[T]) -> Result<(), CapacityError>
         ensures { Allowed (nat_le (length more.now) (N - length (items self.old))) (items self.old) (items self.old ++ more.now) (items self.new) result }
     {
         if more.len() > N - self.len {
-            return false;
+            return Err(CapacityError);
         }
-        for x in more {
-            self.push(*x);
-        }
-        true
+        let end = self.len + more.len();
+        let slots = &mut self.slots[..];
+        slots[self.len..end].copy_from_slice(more);
+        self.len = end;
+        Ok(())
     }
 
     // A vector of the given elements, where there is room for them.
-    pub fn from_slice(filler: T, from: &[T]) -> Option<Self>
-        ensures { option_map items result ≡ (if nat_le (length from.now) N then Some from.now else None) }
+    pub fn from_slice(filler: T, from: &[T]) -> Result<Self, CapacityError>
+        ensures { items_of result ≡ roomy (nat_le (length from.now) N) from.now }
     {
         let mut vec = ArrayVec::new(filler);
-        if vec.append(from) { Some(vec) } else { None }
+        vec.append(from)?;
+        Ok(vec)
     }
 
-    // Writes over the element at a place.
-    pub fn write(&mut self, at: usize, x: T) -> bool
-        ensures { Allowed (nat_lt at (length (items self.old))) (items self.old) (slice_set (items self.old) at x) (items self.new) result }
+    // Writes over the element at a place, and answers what stood there.
+    pub fn write(&mut self, at: usize, x: T) -> Option<T>
+        ensures { Exchanged at (items self.old) (slice_set (items self.old) at x) (items self.new) result }
     {
-        if at < self.len {
-            self.slots[at] = x;
-            true
-        } else {
-            false
-        }
+        let had = *self.as_slice().get(at)?;
+        self.slots[at] = x;
+        Some(had)
     }
 
     // Puts an element at a place, and moves those from there on up by one.
-    pub fn insert(&mut self, at: usize, x: T) -> bool
-        ensures { Allowed (nat_le at (length (items self.old)) && nat_lt (length (items self.old)) N) (items self.old) (insert (items self.old) at x) (items self.new) result }
+    pub fn insert(&mut self, at: usize, x: T) -> Result<(), InsertError>
+        ensures { Inserts N (items self.old) at x (items self.new) result }
     {
-        if at > self.len || self.len >= N {
-            return false;
+        if at > self.len {
+            return Err(InsertError::OutOfBounds);
         }
-        for i in (at..self.len).rev() {
-            self.slots[i + 1] = self.slots[i];
+        if self.len == N {
+            return Err(InsertError::Full);
         }
+        self.slots.copy_within(at..self.len, at + 1);
         self.slots[at] = x;
         self.len += 1;
-        true
+        Ok(())
     }
 
     // Takes out the element at a place, and moves those behind it down by one.
-    pub fn remove(&mut self, at: usize) -> bool
-        ensures { Allowed (nat_lt at (length (items self.old))) (items self.old) (remove (items self.old) at) (items self.new) result }
+    pub fn remove(&mut self, at: usize) -> Option<T>
+        ensures { Exchanged at (items self.old) (remove (items self.old) at) (items self.new) result }
     {
-        if at >= self.len {
-            return false;
-        }
+        let x = *self.as_slice().get(at)?;
+        self.slots.copy_within(at + 1..self.len, at);
         self.len -= 1;
-        for i in at..self.len {
-            self.slots[i] = self.slots[i + 1];
-        }
-        true
+        Some(x)
     }
 
     // Takes out the element at a place, and moves the last one there.
-    pub fn swap_remove(&mut self, at: usize) -> bool
-        ensures { (d : T) → Allowed (nat_lt at (length (items self.old))) (items self.old) (swap_remove (items self.old) at d) (items self.new) result }
+    pub fn swap_remove(&mut self, at: usize) -> Option<T>
+        ensures { (d : T) → Exchanged at (items self.old) (swap_remove (items self.old) at d) (items self.new) result }
     {
-        if self.len <= at {
-            return false;
-        }
+        let last = *self.as_slice().last()?;
+        let x = self.write(at, last)?;
         self.len -= 1;
-        let last = self.slots[self.len];
-        self.slots[at] = last;
-        true
+        Some(x)
     }
 
     pub fn clear(&mut self)

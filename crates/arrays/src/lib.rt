@@ -6,9 +6,13 @@ ghost use Rattle.std.specs.Prelude.{◌≡◌, ◌≤◌, length};
 use std::alloc::AllocError;
 
 pub mod changes;
+pub mod compare;
+pub mod error;
 
 // The elements are the first `len` slots; the others hold anything.
-#[derive(Drop)]
+// By hand, in fixed memory: the library's `ArrayVec` is not `Copy`, and its clone may fail.
+// No model: that of a `Copy` type may forget nothing, and the slots behind `len` are to be forgotten.
+#[derive(Copy, Drop)]
 pub struct ArrayVec<T, const N: usize> {
     slots: [T; N],
     len: usize,
@@ -16,6 +20,7 @@ pub struct ArrayVec<T, const N: usize> {
     ghost within: { len ≤ N },
 }
 
+// By hand: a derive is refused here, beside a ghost field and elements of any type, and would promise less of the elements.
 impl<T: Copy, const N: usize> Clone for ArrayVec<T, N> {
     ghost is_clone = { λ v w. w ≡ v };
 
@@ -25,5 +30,3 @@ impl<T: Copy, const N: usize> Clone for ArrayVec<T, N> {
         Ok(*self)
     }
 }
-
-impl<T: Copy, const N: usize> Copy for ArrayVec<T, N> {}
