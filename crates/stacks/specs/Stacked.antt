@@ -1,14 +1,10 @@
 -- What a stack holds. Assumes nothing.
-use Rattle.std.specs.Prelude.{ℕ, List, [], ◌∷◌, reverse, length, take, Some, None, Option}
-use Rattle.stacks.specs.declared.Stack.{Stack}
+use Rattle.std.specs.Prelude.{ℕ, List, [], ◌∷◌, Some, None, Option}
 
--- the elements, the top first
-abbrev pub stacked : {T : Type 0} → Stack T → List T
-stacked s = reverse (take s.len s.slots.now)
-
--- how many elements find room
-abbrev pub capacity_of : {T : Type 0} → Stack T → ℕ
-capacity_of s = length s.slots.now
+-- the elements, the top first, and how many find room
+pub record Stacked (T : Type 0) : Type 0 where
+  pub items : List T
+  pub capacity : ℕ
 
 abbrev pub top : {T : Type 0} → List T → Option T
 top [] = None
