@@ -3,7 +3,6 @@ use Rattle.std.specs.Prelude.{List, [], ◌∷◌, ℕ, codes}
 use Rattle.functions.specs.declared.Function.{Function}
 use Rattle.functions.specs.declared.Function.TheVariants as function
 use Rattle.functions.specs.declared.Signature.{Signature}
-use Rattle.functions.specs.declared.Named.{Named}
 
 abbrev pub takes : Function → ℕ → ℕ → Signature
 takes f least' most' = record { function = f; least = least'; most = most' }
@@ -19,6 +18,3 @@ functions =
     ∷ (codes "RANGE", takes function.Range 2 2)
     ∷ (codes "VALUE", takes function.Value 2 2)
     ∷ []
-
-abbrev pub row_means : Named → List ℕ × Signature
-row_means n = (n.name.bytes.now, n.signature)

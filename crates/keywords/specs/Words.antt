@@ -2,7 +2,6 @@
 use Rattle.std.specs.Prelude.{List, [], ◌∷◌, ℕ, codes}
 use Rattle.keywords.specs.declared.Keyword.{Keyword}
 use Rattle.keywords.specs.declared.Keyword.TheVariants as keyword
-use Rattle.keywords.specs.declared.Named.{Named}
 
 abbrev pub keywords : List (List ℕ × Keyword)
 keywords =
@@ -14,6 +13,3 @@ keywords =
     ∷ (codes "JOINEACH", keyword.Joineach)
     ∷ (codes "WHILE", keyword.While)
     ∷ []
-
-abbrev pub row_means : Named → List ℕ × Keyword
-row_means n = (n.name.bytes.now, n.keyword)

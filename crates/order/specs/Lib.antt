@@ -1,4 +1,4 @@
 pub mod Orders
 pub mod Names
 pub mod Made
-pub mod WordMeans
+pub mod Tables

@@ -1,4 +1,4 @@
-// Keys with a total order, and the one search by halving over rows that are sorted by key.
+// Keys with a total order, the one search by halving over rows that are sorted by key, and tables of names.
 #![tactic(auto)]
 
 ghost use Rattle.std.specs.Prelude.{◌≡◌};
@@ -6,21 +6,22 @@ ghost use Rattle.order.specs.Orders.{Order, Total, Located};
 
 use std::cmp::Ordering;
 
+pub mod table;
 pub mod words;
 
-// A key that can be compared. The ghost members say what the key means and by which order, and prove that order total.
-pub trait Ordered {
+// A key whose comparison is known: what the key means, and the total order of the meanings by which it compares.
+pub trait Ordered: Ord {
     ghost Means: { Type 0 };
 
     ghost means: { Self → Means };
 
     ghost order: { Order Means };
 
-    fn compare(&self, other: &Self) -> Ordering
-        ensures { result ≡ order.rank (means self.now) (means other.now) };
+    // What each `impl` must prove.
+    ghost ranks: { (x y : Self) → Self.cmp x y ≡ order.rank (means x) (means y) };
 }
 
-// A row that is found by its key.
+// A row that is found by its key. A trait, since a closure that gives the key would ask something of the caller.
 pub trait Row {
     type Key: Ordered;
 
@@ -35,17 +36,7 @@ pub trait Row {
 pub fn search<R: Row>(rows: &[R], key: &R::Key) -> Result<usize, usize>
     ensures { Located R.Key.Ordered.order (λ (x : R). R.Key.Ordered.means (R.Row.keyed x)) rows.now (R.Key.Ordered.means key.now) result }
 {
-    let mut low = 0;
-    let mut high = rows.len();
-    while low < high {
-        let mid = low + (high - low) / 2;
-        match rows[mid].key().compare(key) {
-            Ordering::Less => low = mid + 1,
-            Ordering::Equal => return Ok(mid),
-            Ordering::Greater => high = mid,
-        }
-    }
-    Err(low)
+    rows.binary_search_by(|row| row.key().cmp(key))
 }
 
 // Compares two keys. What is promised beyond the answer is why every such order is total.
@@ -53,5 +44,5 @@ pub fn compare_total<K: Ordered>(a: &K, b: &K) -> Ordering
     ensures answer { result ≡ K.Ordered.order.rank (K.Ordered.means a.now) (K.Ordered.means b.now) }
     ensures total { Total K.Ordered.order }
 {
-    a.compare(b)
+    a.cmp(b)
 }

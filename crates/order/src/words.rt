@@ -1,11 +1,11 @@
 // Byte strings, in the order of a dictionary.
 ghost use Rattle.std.specs.Prelude.{ℕ, List};
+ghost use Rattle.std.proofs.Common.{rules};
 ghost use Rattle.order.specs.Made.{bytes_order};
 
 use super::{Ordered, Row};
-use std::cmp::Ordering;
 
-#[derive(Clone, Copy)]
+#[derive(Clone, Copy, PartialEq, Eq, PartialOrd, Ord, Debug)]
 pub struct Word<'a> {
     pub bytes: &'a [u8],
 }
@@ -17,9 +17,7 @@ impl<'a> Ordered for Word<'a> {
 
     ghost order = { bytes_order };
 
-    fn compare(&self, other: &Word<'a>) -> Ordering {
-        self.bytes.cmp(&other.bytes)
-    }
+    ghost ranks = { Prim.search rules };
 }
 
 // A word is its own key, so that a sorted list of words can be searched.
