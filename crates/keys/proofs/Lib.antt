@@ -1,1 +1,3 @@
 pub mod Listed
+pub mod WordBytes
+pub mod Same

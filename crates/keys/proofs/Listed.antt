@@ -1,48 +1,24 @@
--- Which words a sorted list has. Assumes nothing.
-use Rattle.std.proofs.Common.{◌≡◌, ℕ, zero, suc, ◌<◌, true, false, List, [], ◌∷◌, map, length, get_or, take, drop, Less, sym, refl, ap, ◌∙◌, ⊎_elim, arith}
-use Rattle.std.specs.Ordering.{is_lt}
-use Rattle.std.proofs.lemmas.Bool.{and_parts, or_left, or_right, or_from, cases_Bool}
-use Rattle.order.specs.Made.{bytes_order}
-use Rattle.order.specs.Orders.{above, below}
-use Rattle.order.proofs.Sorting.{lt_is}
+-- Which words a table of names has. Assumes nothing.
+use Rattle.std.proofs.Common.{◌≡◌, ℕ, ◌||◌, List, [], ◌∷◌, map, is_some, Some, inl, inr, sym, refl, ap, ◌∙◌, true≢false}
+use Rattle.std.specs.List.{list_any}
+use Rattle.std.proofs.lemmas.Bool.{cases_Bool}
 use Rattle.std.specs.Str.{bytes_eq}
 use Rattle.std.proofs.lemmas.Slice.Eq.{bytes_eq-Decides}
-use Rattle.keys.specs.NameBytes.{one_of}
+use Rattle.order.specs.Orders.{choose}
+use Rattle.order.specs.Made.{bytes_order}
+use Rattle.order.specs.Names.{key_of, lookup}
+use Rattle.order.proofs.Entries.{skip}
 
-same_bytes : (xs : List ℕ) → bytes_eq xs xs ≡ true
-same_bytes xs = (bytes_eq-Decides xs xs).1 refl
-
-bytes_same : (xs ys : List ℕ) → bytes_eq xs ys ≡ true → xs ≡ ys
-bytes_same xs ys h = (bytes_eq-Decides xs ys).0 h
-
--- words in order that differ
-apart : (xs ys : List ℕ) → bytes_order.rank xs ys ≡ Less → bytes_eq xs ys ≡ false
-apart xs ys h = ⊎_elim
-    (λ t. let s = sym h ∙ ap (λ z. bytes_order.rank z ys) (bytes_same xs ys t) ∙ bytes_order.self ys in let z : ◌≡◌ {A = ℕ} 0 1 = cc in absurd (omega arith))
-    (λ f. f)
-    (cases_Bool (bytes_eq xs ys))
-
-apart_after : (xs ys : List ℕ) → bytes_order.rank ys xs ≡ Less → bytes_eq xs ys ≡ false
-apart_after xs ys h = ⊎_elim
-    (λ t. let s = sym h ∙ ap (λ z. bytes_order.rank ys z) (bytes_same xs ys t) ∙ bytes_order.self ys in let z : ◌≡◌ {A = ℕ} 0 1 = cc in absurd (omega arith))
-    (λ f. f)
-    (cases_Bool (bytes_eq xs ys))
-
-module _ {X : Type 0} (f : X → List ℕ) (word : List ℕ) where
-  pub found : (xs : List X) (i : ℕ) (d : X) → i < length xs → f (get_or xs i d) ≡ word → one_of word (map f xs) ≡ true
-  found [] i d l e = absurd (omega arith)
-  found (x ∷ xs) zero d l e = or_left _ _ (ap (bytes_eq word) e ∙ same_bytes word)
-  found (x ∷ xs) (suc i) d l e = or_right (bytes_eq word (f x)) _ (found xs i d (omega arith) e)
-
-  behind : (xs : List X) → below bytes_order f word xs ≡ true → one_of word (map f xs) ≡ false
-  behind [] b = refl
-  behind (x ∷ xs) b =
-      let p = and_parts (is_lt (bytes_order.rank word (f x))) (below bytes_order f word xs) b in
-      or_from _ _ (apart word (f x) (lt_is _ p.0)) (behind xs p.1)
-
-  pub missing : (xs : List X) (i : ℕ) → above bytes_order f word (take i xs) ≡ true → below bytes_order f word (drop i xs) ≡ true → one_of word (map f xs) ≡ false
-  missing [] i a b = refl
-  missing (x ∷ xs) zero a b = behind (x ∷ xs) b
-  missing (x ∷ xs) (suc i) a b =
-      let p = and_parts (is_lt (bytes_order.rank (f x) word)) (above bytes_order f word (take i xs)) a in
-      or_from _ _ (apart_after word (f x) (lt_is _ p.0)) (missing xs i p.1 b)
+-- a name is found exactly if it is one of the names
+pub found_if_listed : {V : Type 0} (k : List ℕ) (es : List (List ℕ × V)) → is_some (lookup bytes_order k es) ≡ list_any (bytes_eq k) (map key_of es)
+found_if_listed k [] = refl
+found_if_listed k (e ∷ es) =
+    let more = lookup bytes_order k es in
+    elim (cases_Bool (bytes_eq k e.0)) [
+      | inl t ↦
+          let s : k ≡ e.0 = (bytes_eq-Decides k e.0).0 t in
+          ap (λ r. is_some (choose r more (Some e.1) more)) (ap (bytes_order.rank k) (sym s) ∙ bytes_order.self k) ∙ sym (ap (λ b. b || list_any (bytes_eq k) (map key_of es)) t)
+      | inr f ↦
+          let n : k ≡ e.0 → ⊥ = λ s. true≢false (sym ((bytes_eq-Decides k e.0).1 s) ∙ f) in
+          ap is_some (skip bytes_order k e.0 more (Some e.1) n) ∙ found_if_listed k es ∙ sym (ap (λ b. b || list_any (bytes_eq k) (map key_of es)) f)
+    ]

@@ -1,5 +1,6 @@
 -- Which bytes are a name. Assumes nothing.
-use Rattle.std.specs.Prelude.{ℕ, Bool, true, false, not, ◌&&◌, ◌||◌, List, [], ◌∷◌, length, codes, ◌==◌, nat_le}
+use Rattle.std.specs.Prelude.{ℕ, Bool, false, not, ◌&&◌, ◌||◌, List, [], ◌∷◌, length, codes, ◌==◌, nat_le}
+use Rattle.std.specs.List.{list_all, list_any}
 use Rattle.std.specs.Str.{bytes_eq}
 
 abbrev pub between : ℕ → ℕ → ℕ → Bool
@@ -21,16 +22,14 @@ abbrev pub name_byte : ℕ → Bool
 name_byte b = letter b || (digit b || (b == 95 || b == 46))
 
 abbrev pub all_name_bytes : List ℕ → Bool
-all_name_bytes [] = true
-all_name_bytes (b ∷ bs) = name_byte b && all_name_bytes bs
+all_name_bytes = list_all name_byte
 
 -- the words of instructions
 abbrev pub reserved_words : List (List ℕ)
 reserved_words = codes "ELIF" ∷ codes "ELSE" ∷ codes "END" ∷ codes "FOREACH" ∷ codes "IF" ∷ codes "JOINEACH" ∷ codes "WHILE" ∷ []
 
 abbrev pub one_of : List ℕ → List (List ℕ) → Bool
-one_of bs [] = false
-one_of bs (w ∷ ws) = bytes_eq bs w || one_of bs ws
+one_of bs = list_any (bytes_eq bs)
 
 -- a letter or `_`, then letters, digits, `_` or `.`
 abbrev pub shaped : List ℕ → Bool

@@ -1,12 +1,12 @@
 // A name, plain or with one number as subscript.
+ghost use Rattle.std.proofs.Common.{rules};
 ghost use Rattle.keys.specs.KeyMeans.{key_means};
 ghost use Rattle.keys.specs.KeyOrder.{KeyName, key_order};
 
 use super::name::Name;
 use order::Ordered;
-use std::cmp::Ordering;
 
-#[derive(Clone, Copy)]
+#[derive(Clone, Copy, PartialEq, Eq, PartialOrd, Ord)]
 pub struct Key {
     pub name: Name,
     pub subscript: Option<i64>,
@@ -19,10 +19,5 @@ impl Ordered for Key {
 
     ghost order = { key_order };
 
-    fn compare(&self, other: &Key) -> Ordering {
-        self.name
-            .as_bytes()
-            .cmp(&other.name.as_bytes())
-            .then(self.subscript.cmp(&other.subscript))
-    }
+    ghost ranks = { Prim.search rules };
 }

@@ -7,7 +7,8 @@ use arrays::ArrayVec;
 
 pub mod judge;
 
-#[derive(Clone, Copy)]
+// No model, as of its `ArrayVec`: a name is `Copy`, and the bytes behind its length are forgotten.
+#[derive(Clone, Copy, PartialEq, Eq, PartialOrd, Ord)]
 pub struct Name {
     bytes: ArrayVec<u8, 24>,
     ghost lawful: { lawful_name (items bytes) ≡ true },

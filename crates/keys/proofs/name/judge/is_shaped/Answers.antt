@@ -1,12 +1,14 @@
-use Rattle.std.proofs.Common.{◌≡◌, ◌<◌, ◌&&◌, length, get_or, drop, sym, ap, ◌∙◌, arith}
-use Rattle.std.proofs.lemmas.List.{at_drop_more, take_rest}
-use Rattle.std.proofs.lemmas.Bool.{eqb-false}
-use Rattle.keys.specs.NameBytes.{name_start, all_name_bytes, shaped}
+use Rattle.std.proofs.Common.{◌≡◌, ◌&&◌, sym, ap, ◌∙◌, rules, tests}
+use Rattle.std.specs.List.{list_all}
+use Rattle.std.proofs.lemmas.Iterator.{YieldsList-from_slice}
+use Rattle.std.proofs.lemmas.Iterator.Search.{all_from_yields_List}
+use Rattle.keys.specs.NameBytes.{name_byte, shaped}
+use Rattle.keys.proofs.WordBytes.{word_is}
 use Rattle.keys.proofs.name.judge.is_shaped.Goals as goal
 
 pub returns-then-is_name_start : goal.returns-then-is_name_start
 returns-then-is_name_start c =
-    let bs = c.args.bytes.now in
-    let some : 0 < length bs = omega (arith, eqb-false (length bs) 0 (sym c.if-is_empty.ensures)) in
-    let step : shaped bs ≡ (name_start (get_or bs 0 0) && all_name_bytes (drop 1 bs)) = at_drop_more shaped bs 0 0 some in
-    c.all_name_bytes.ensures ∙ ap all_name_bytes (take_rest bs 1) ∙ sym (step ∙ ap (λ b. b && all_name_bytes (drop 1 bs)) (sym c.if-is_name_start.ensures))
+    let rest = c.in-Some.rest.now in
+    let others : c.all.result ≡ list_all name_byte rest =
+    all_from_yields_List name_byte _ _ _ c.all.ensures.ran (YieldsList-from_slice rest c.iter.ensures.rest) (λ x b q k. let e = word_is x.now in search (rules, tests)) in
+    others ∙ sym (ap shaped c.in-Some.ensures.cases.0 ∙ ap (λ b. b && list_all name_byte rest) (sym c.if-is_name_start.ensures))
