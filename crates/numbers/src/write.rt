@@ -1,44 +1,29 @@
 // Numbers in base ten, written.
-ghost use Rattle.std.specs.Prelude.{◌≡◌, decimal};
+ghost use Rattle.std.specs.Prelude.{◌≡◌, ◌≤◌, length};
 ghost use Rattle.std.specs.Fmt.{signed_decimal};
-ghost use Rattle.numbers.specs.Numerals.{numeral_means};
 
 use super::Numeral;
+use itoa::write_digits;
 
-fn digits(n: u64) -> Numeral
-    ensures { numeral_means result ≡ decimal n }
-{
-    let mut bytes = [0; 20];
-    let mut start = 20;
-    let mut rest = n;
-    while rest >= 10 {
-        start -= 1;
-        bytes[start] = 48 + (rest % 10) as u8;
-        rest /= 10;
+// A number with a minus sign where it is negative.
+impl From<i64> for Numeral {
+    ghost from_gives = { λ n r. r ≡ signed_decimal n };
+
+    fn from(n: i64) -> Self {
+        let mut bytes = [0; 20];
+        let mut start = write_digits(n.unsigned_abs(), &mut bytes, 20);
+        if n < 0 {
+            start -= 1;
+            bytes[start] = b'-';
+        }
+        Numeral { bytes, start }
     }
-    start -= 1;
-    bytes[start] = 48 + rest as u8;
-    Numeral { bytes, start }
 }
 
 impl Numeral {
-    // A number with a minus sign where it is negative.
-    pub fn new(n: i64) -> Numeral
-        ensures { numeral_means result ≡ signed_decimal n }
-    {
-        let Numeral { mut bytes, start } = digits(n.unsigned_abs());
-        if n >= 0 {
-            return Numeral { bytes, start };
-        }
-        bytes[start - 1] = b'-';
-        Numeral {
-            bytes,
-            start: start - 1,
-        }
-    }
-
     pub fn as_bytes(&self) -> &[u8]
-        ensures { result.now ≡ numeral_means self.now }
+        ensures value { result.now ≡ self.now }
+        ensures short { length result.now ≤ 20 }
     {
         &self.bytes[self.start..]
     }
