@@ -28,20 +28,12 @@ pub const LONGEST: usize = 527;
 pub fn element_form(element: &Element) -> ArrayVec<u8, 32>
     ensures { items result ≡ form (element_means element.now) }
 {
-    let mut bytes = ArrayVec::new(0);
     // a number has at most 20 bytes and a text 32, so there is room
     match element {
-        Element::Number(n) => {
-            bytes.append(Numeral::new(*n).as_bytes());
-        }
-        Element::Text(t) => {
-            bytes.append(t.as_bytes());
-        }
-        Element::Both(_, text) => {
-            bytes.append(text.as_bytes());
-        }
+        Element::Number(n) => ArrayVec::from_slice(0, Numeral::from(*n).as_bytes()),
+        Element::Text(text) | Element::Both(_, text) => ArrayVec::from_slice(0, text.as_bytes()),
     }
-    bytes
+    .unwrap()
 }
 
 // A value's print form: those of its elements in order, with commas between.
@@ -51,9 +43,9 @@ pub fn value_form(value: &Value) -> ArrayVec<u8, LONGEST>
     let mut bytes = ArrayVec::new(0);
     for (i, element) in value.elements().iter().enumerate() {
         if i > 0 {
-            bytes.push(b',');
+            bytes.push(b',').unwrap();
         }
-        bytes.append(element_form(element).as_slice());
+        bytes.append(element_form(element).as_slice()).unwrap();
     }
     bytes
 }
@@ -84,11 +76,9 @@ pub fn concat(a: &Value, b: &Value) -> Result<Text, Refusal>
     ensures { meant text_means result ≡ answered (nat_le (length (value_form (value_means a.now) ++ value_form (value_means b.now))) 32) (value_form (value_means a.now) ++ value_form (value_means b.now)) TextTooLong }
 {
     let mut both: ArrayVec<u8, 32> = ArrayVec::new(0);
-    if !both.append(value_form(a).as_slice()) {
-        return Err(Refusal::TextTooLong);
-    }
-    if !both.append(value_form(b).as_slice()) {
-        return Err(Refusal::TextTooLong);
-    }
-    Ok(Text::from_vec(both))
+    both.append(value_form(a).as_slice())
+        .map_err(|_| Refusal::TextTooLong)?;
+    both.append(value_form(b).as_slice())
+        .map_err(|_| Refusal::TextTooLong)?;
+    Ok(Text::from(both))
 }

@@ -12,34 +12,36 @@ use super::value::Value;
 use refusals::Refusal;
 
 // An element with a number, a text of at most 32 bytes or both; any other is refused.
-fn judge_element(given: &Given) -> Result<Element, Refusal>
-    ensures { meant element_means result ≡ answered (lawful_element given.now.number given.now.text) (element_of given.now.number given.now.text) BadValue }
-{
-    let Some(bytes) = given.text else {
-        return match given.number {
-            Some(n) => Ok(Element::Number(n)),
-            None => Err(Refusal::BadValue),
+impl TryFrom<&Given<'_>> for Element {
+    type Error = Refusal;
+
+    ghost try_from_gives = { λ g r. meant element_means r ≡ answered (lawful_element g.now.number g.now.text) (element_of g.now.number g.now.text) BadValue };
+
+    fn try_from(given: &Given<'_>) -> Result<Element, Refusal> {
+        let Some(bytes) = given.text else {
+            return given.number.map(Element::Number).ok_or(Refusal::BadValue);
         };
-    };
-    match Text::new(bytes) {
-        Ok(text) => Ok(match given.number {
+        let text = Text::try_from(bytes).map_err(|_| Refusal::BadValue)?;
+        Ok(match given.number {
             Some(n) => Element::Both(n, text),
             None => Element::Text(text),
-        }),
-        Err(_) => Err(Refusal::BadValue),
+        })
     }
 }
 
 // A value of at most 16 lawful elements; any other is refused.
-pub fn judge_value(given: &[Given]) -> Result<Value, Refusal>
-    ensures { meant value_means result ≡ answered (lawful_value given.now) (elements_of given.now) BadValue }
-{
-    let mut value = Value::new();
-    for g in given {
-        let element = judge_element(g)?;
-        if value.push(element).is_err() {
-            return Err(Refusal::BadValue);
+impl TryFrom<&[Given<'_>]> for Value {
+    type Error = Refusal;
+
+    ghost try_from_gives = { λ gs r. meant value_means r ≡ answered (lawful_value gs.now) (elements_of gs.now) BadValue };
+
+    fn try_from(given: &[Given<'_>]) -> Result<Value, Refusal> {
+        let mut value = Value::new();
+        for g in given {
+            value
+                .push(Element::try_from(g)?)
+                .map_err(|_| Refusal::BadValue)?;
         }
+        Ok(value)
     }
-    Ok(value)
 }

@@ -4,7 +4,8 @@ use arrays::ArrayVec;
 
 pub mod elements;
 
-#[derive(Clone, Copy)]
+// No model, as of its `ArrayVec`: a value is `Copy`, and the slots behind its length are forgotten.
+#[derive(Clone, Copy, PartialEq, Eq)]
 pub struct Value {
     elements: ArrayVec<Element, 16>,
 }

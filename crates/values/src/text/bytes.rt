@@ -9,24 +9,29 @@ use super::Text;
 use arrays::ArrayVec;
 use refusals::Refusal;
 
-impl Text {
-    // The text of some bytes, which are at most 32.
-    pub fn new(bytes: &[u8]) -> Result<Text, Refusal>
-        ensures { meant text_means result ≡ answered (nat_le (length bytes.now) 32) bytes.now TextTooLong }
-    {
-        match ArrayVec::from_slice(0, bytes) {
-            Some(bytes) => Ok(Text { bytes }),
-            None => Err(Refusal::TextTooLong),
-        }
-    }
+// The text of some bytes, which are at most 32.
+impl TryFrom<&[u8]> for Text {
+    type Error = Refusal;
 
-    // The text of the bytes in a vector.
-    pub fn from_vec(bytes: ArrayVec<u8, 32>) -> Text
-        ensures { text_means result ≡ items bytes }
-    {
+    ghost try_from_gives = { λ b r. meant text_means r ≡ answered (nat_le (length b.now) 32) b.now TextTooLong };
+
+    fn try_from(bytes: &[u8]) -> Result<Text, Refusal> {
+        ArrayVec::from_slice(0, bytes)
+            .map(Text::from)
+            .map_err(|_| Refusal::TextTooLong)
+    }
+}
+
+// The text of the bytes in a vector.
+impl From<ArrayVec<u8, 32>> for Text {
+    ghost from_gives = { λ b t. text_means t ≡ items b };
+
+    fn from(bytes: ArrayVec<u8, 32>) -> Text {
         Text { bytes }
     }
+}
 
+impl Text {
     pub fn as_bytes(&self) -> &[u8]
         ensures { result.now ≡ text_means self.now }
     {

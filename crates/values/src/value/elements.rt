@@ -9,6 +9,14 @@ use super::Value;
 use arrays::ArrayVec;
 use refusals::Refusal;
 
+impl Default for Value {
+    ghost is_default = { λ v. value_means v ≡ [] };
+
+    fn default() -> Value {
+        Value::new()
+    }
+}
+
 impl Value {
     // The value of no elements.
     pub fn new() -> Value
@@ -29,21 +37,17 @@ impl Value {
     pub fn push(&mut self, element: Element) -> Result<(), Refusal>
         ensures { Guarded (nat_lt (length (value_means self.old)) 16) (value_means self.old) (value_means self.old ++ element_means element ∷ []) (value_means self.new) TooManyElements result }
     {
-        if self.elements.push(element) {
-            Ok(())
-        } else {
-            Err(Refusal::TooManyElements)
-        }
+        self.elements
+            .push(element)
+            .map_err(|_| Refusal::TooManyElements)
     }
 
     // The elements of another value behind its own; where they are more than 16 together it is refused, and the value stays.
     pub fn append(&mut self, other: &Value) -> Result<(), Refusal>
         ensures { Guarded (nat_le (length (value_means self.old ++ value_means other.now)) 16) (value_means self.old) (value_means self.old ++ value_means other.now) (value_means self.new) TooManyElements result }
     {
-        if self.elements.append(other.elements.as_slice()) {
-            Ok(())
-        } else {
-            Err(Refusal::TooManyElements)
-        }
+        self.elements
+            .append(other.elements())
+            .map_err(|_| Refusal::TooManyElements)
     }
 }
