@@ -25,7 +25,7 @@ fn print_key<P: Printer>(printer: &mut P, key: &Key) -> Result<(), Refusal>
         return Ok(());
     };
     print(printer, b"[")?;
-    print(printer, Numeral::new(n).as_bytes())?;
+    print(printer, Numeral::from(n).as_bytes())?;
     print(printer, b"]")
 }
 

@@ -1,18 +1,25 @@
 // A board of ROWS rows of 32 bytes, filled row by row.
-ghost use Rattle.std.specs.Prelude.{◌≡◌, ◌*◌, ◌<◌, ◌≤◌, true, [], length, Some, None, nat_le};
+ghost use Rattle.std.specs.Prelude.{◌≡◌, ◌*◌, ◌<◌, ◌≤◌, true, [], length, MatchOption, nat_le};
 ghost use Rattle.refusals.specs.Refusals.{answered, meant};
 ghost use Rattle.refusals.specs.declared.Refusal.TheVariants.{OutOfRange};
-ghost use Rattle.papers.specs.Rows.{wide, written, row_of, short};
+ghost use Rattle.std.proofs.Common.{rules};
+ghost use Rattle.std.proofs.Props.{props};
+ghost use Rattle.std.proofs.lemmas.Grind.{common_steps};
+ghost use Rattle.papers.specs.Rows.{Wide, written, row_of};
 
-use printer::Printer;
+use printer::{MOST_BYTES, Printer};
 use refusals::Refusal;
 
+// How many bytes a row has.
+const ROW: usize = 32;
+
 // The bytes taken are the first `len`; the others hold anything.
+// No model, as of a roll. A length beside the rows: the memory is fixed, and no length of an array is computed from ROWS.
 #[derive(Drop)]
 pub struct Board<const ROWS: usize> {
-    rows: [[u8; 32]; ROWS],
+    rows: [[u8; ROW]; ROWS],
     len: usize,
-    ghost wide: { wide rows ≡ true },
+    ghost wide: { Wide rows } by { Prim.hlevel props },
     ghost sized: { length rows ≡ ROWS },
     ghost within: { len ≤ 32 * ROWS },
     ghost lawful: { 32 * ROWS ≤ 16384 },
@@ -23,28 +30,27 @@ impl<const ROWS: usize> Board<ROWS> {
     pub fn new() -> Result<Self, Refusal>
         ensures { meant (λ s. written s.len s.rows) result ≡ answered (nat_le (32 * ROWS) 16384) [] OutOfRange }
     {
-        if ROWS > 512 {
+        if ROWS > MOST_BYTES / ROW {
             return Err(Refusal::OutOfRange);
         }
         Ok(Board {
-            rows: [[0; 32]; ROWS],
+            rows: [[0; ROW]; ROWS],
             len: 0,
         })
     }
 
     // The bytes taken that stand in a row; nothing where there is no such row.
+    #[tactic(auto, using(crate::proofs::Flat::row_at))]
     pub fn row(&self, at: usize) -> Option<&[u8]>
-        ensures { elim result [ Some s ↦ (at < ROWS) × (s.now ≡ row_of (written self.now.len self.now.rows) at) | None ↦ ROWS ≤ at ] }
+        ensures { MatchOption result (ROWS ≤ at) (λ s. (at < ROWS) × (s.now ≡ row_of (written self.now.len self.now.rows) at)) }
     {
-        if at >= ROWS {
-            return None;
-        }
-        let used = self.len.saturating_sub(32 * at).min(32);
-        let rows = &self.rows[..];
-        Some(&rows[at][0..used])
+        let row = self.rows.get(at)?;
+        let used = self.len.saturating_sub(ROW * at).min(ROW);
+        Some(&row[..used])
     }
 }
 
+#[tactic(auto, using(crate::proofs::Flat::length_written, crate::proofs::Flat::written_more))]
 impl<const ROWS: usize> Printer for Board<ROWS> {
     ghost taken = { λ s. written s.len s.rows };
 
@@ -52,18 +58,15 @@ impl<const ROWS: usize> Printer for Board<ROWS> {
 
     ghost settled = { λ _. true };
 
-    ghost within = { λ s. short (32 * ROWS) s.rows s.within };
+    ghost within = { λ s. Prim.search (rules, common_steps) };
 
     ghost lawful = { λ s. s.lawful };
 
     fn put(&mut self, byte: u8) -> Result<(), Refusal> {
-        let at = self.len / 32;
-        if at >= ROWS {
+        if self.len == self.capacity() {
             return Err(Refusal::PaperFull);
         }
-        let mut row = self.rows[at];
-        row[self.len % 32] = byte;
-        self.rows[at] = row;
+        self.rows[self.len / ROW][self.len % ROW] = byte;
         self.len += 1;
         Ok(())
     }
@@ -79,6 +82,6 @@ impl<const ROWS: usize> Printer for Board<ROWS> {
     }
 
     fn capacity(&self) -> usize {
-        32 * ROWS
+        ROW * ROWS
     }
 }

@@ -5,9 +5,10 @@ ghost use Rattle.refusals.specs.Refusals.{answered, meant};
 ghost use Rattle.refusals.specs.declared.Refusal.TheVariants.{OutOfRange};
 
 use arrays::ArrayVec;
-use printer::Printer;
+use printer::{MOST_BYTES, Printer};
 use refusals::Refusal;
 
+// No model: the laws of `Printer` would have to hold of every list of bytes, however long.
 #[derive(Drop)]
 pub struct Roll<const N: usize> {
     strip: ArrayVec<u8, N>,
@@ -19,7 +20,7 @@ impl<const N: usize> Roll<N> {
     pub fn new() -> Result<Self, Refusal>
         ensures { meant (λ s. items s.strip) result ≡ answered (nat_le N 16384) [] OutOfRange }
     {
-        if N > 16384 {
+        if N > MOST_BYTES {
             return Err(Refusal::OutOfRange);
         }
         Ok(Roll {
@@ -47,11 +48,7 @@ impl<const N: usize> Printer for Roll<N> {
     ghost lawful = { λ s. s.lawful };
 
     fn put(&mut self, byte: u8) -> Result<(), Refusal> {
-        if self.strip.push(byte) {
-            Ok(())
-        } else {
-            Err(Refusal::PaperFull)
-        }
+        self.strip.push(byte).map_err(|_| Refusal::PaperFull)
     }
 
     fn settle(&mut self) {}

@@ -19,20 +19,16 @@ use values::value::Value;
 
 pub mod entry;
 
+// The largest capacity that a store may have.
+pub const MOST_KEYS: usize = 512;
+
 // A maker's own store shows by the ghost members what it means, and proves the contracts.
 pub trait Store {
     // the keys that are set, in key order, with their values: stores with equal look-ups have equal names
     ghost names: { Self → Names };
 
-    // how many keys it holds at most
+    // how many keys it holds at most: a fact of the value, since a store may be sized when it is made
     ghost capacity: { Self → ℕ };
-
-    ghost ordered: { (s : Self) → sorted key_order key_of (names s) ≡ true };
-
-    ghost within: { (s : Self) → length (names s) ≤ capacity s };
-
-    // the capacity is within its range
-    ghost lawful: { (s : Self) → capacity s ≤ 512 };
 
     // The value of a key, or that it is unset.
     fn ask(&self, key: &Key) -> Option<Value>
@@ -55,16 +51,22 @@ pub trait Store {
     // How many keys it holds at most.
     fn capacity(&self) -> usize
         ensures { result ≡ capacity self.now };
+
+    // the names stand in key order
+    ghost ordered: { (s : Self) → sorted key_order key_of (names s) ≡ true };
+
+    // no more keys than the capacity are set
+    ghost within: { (s : Self) → length (names s) ≤ capacity s };
+
+    // the capacity is within its range
+    ghost lawful: { (s : Self) → capacity s ≤ 512 };
 }
 
 // The value of a key; an unset key reads as the value of no elements.
 pub fn read<S: Store>(store: &S, key: &Key) -> Value
     ensures { value_means result ≡ read_at (key_means key.now) (S.Store.names store.now) }
 {
-    match store.ask(key) {
-        Some(value) => value,
-        None => Value::new(),
-    }
+    store.ask(key).unwrap_or_default()
 }
 
 // How many keys are set. What is promised beyond that is why the names of a store say what it means.
