@@ -1,10 +1,10 @@
 // Prints a customer's card: reads `NAME VALUE` lines, files them, and prints them in key order.
 #![tactic(auto)]
 
-ghost use Rattle.std.specs.Prelude.{◌≡◌, ◌+◌, ◌-◌, length};
+ghost use Rattle.std.specs.Prelude.{◌++◌, Some, codes, decimal};
+ghost use Rattle.refusals.specs.Refusals.{report_of};
 
-use anyhow::anyhow;
-use cards::cut::find;
+use anyhow::ensure;
 use cards::file::file_line;
 use index::Index;
 use lines::Lines;
@@ -15,6 +15,7 @@ use printer::Printer;
 use refusals::Refusal;
 use sheet::Sheet;
 use std::alloc::{AllocError, Global};
+use std::fmt;
 use std::io::Read;
 use store::{Store, count_names};
 
@@ -25,96 +26,37 @@ struct Bad {
     refusal: Refusal,
 }
 
-// A line without the byte 13 that may end it.
-fn without_return(line: &[u8]) -> &[u8] {
-    let n = line.len();
-    if n > 0 && line[n - 1] == b'\r' {
-        &line[0..n - 1]
-    } else {
-        line
+impl fmt::Display for Bad {
+    ghost output = { λ b. Some (codes "line " ++ decimal b.line ++ codes ": " ++ report_of b.refusal) };
+
+    fn fmt<W: fmt::Write>(&self, f: &mut fmt::Formatter<W>) -> fmt::Result {
+        write!(f, "line {}: {}", self.line, self.refusal)
     }
 }
 
-// What stands behind a place.
-fn behind(bytes: &[u8], at: usize) -> &[u8]
-    ensures { length result.now ≡ length bytes.now - (at + 1) }
-{
-    if at < bytes.len() {
-        &bytes[at + 1..]
-    } else {
-        &bytes[bytes.len()..]
-    }
-}
-
-// Files one line. An empty line says nothing; a refused one changes nothing and is noted.
-fn take_line<S: Store>(
-    store: &mut S,
-    number: u64,
-    line: &[u8],
-    bad: &mut Vec<Bad>,
-) -> Result<(), AllocError> {
-    if line.is_empty() {
-        return Ok(());
-    }
-    if let Err(refusal) = file_line(store, line) {
-        bad.push(Bad {
-            line: number,
-            refusal,
-        })?;
-    }
-    Ok(())
-}
-
-// Files a whole card, and answers the lines that were refused.
+// Files a whole card, and answers the lines that were refused. The byte 13 that may end a line is no part of it.
+// An empty line says nothing, and a refused one changes nothing.
 fn take_card<S: Store>(heap: Global, store: &mut S, card: &[u8]) -> Result<Vec<Bad>, AllocError> {
     let mut bad = Vec::new(heap);
-    let mut rest = card;
-    let mut number: u64 = 1;
-    while let Some(end) = find(rest, b'\n') {
-        let line = without_return(&rest[0..end]);
-        rest = behind(rest, end);
-        take_line(store, number, line, &mut bad)?;
-        number = number.saturating_add(1);
+    for (i, line) in card.split(|b| *b == b'\n').enumerate() {
+        let line = line.strip_suffix(b"\r").unwrap_or(line);
+        if line.is_empty() {
+            continue;
+        }
+        if let Err(refusal) = file_line(store, line) {
+            let line = (i as u64).saturating_add(1);
+            bad.push(Bad { line, refusal })?;
+        }
     }
-    take_line(store, number, without_return(rest), &mut bad)?;
     Ok(bad)
-}
-
-// Writes a refusal: its number and its layer.
-fn report(rt: &HostRuntime, refusal: Refusal) -> anyhow::Result<()> {
-    let number = refusal.number();
-    print!(rt; "refused {number} in ")?;
-    rt.write_all(refusal.layer().word())?;
-    rt.write_all(b"\n")?;
-    Ok(())
-}
-
-// What was made; the capacities here are within their ranges.
-fn made<T>(answer: Result<T, Refusal>) -> anyhow::Result<T> {
-    match answer {
-        Ok(value) => Ok(value),
-        Err(_) => Err(anyhow!("a capacity is outside its range")),
-    }
 }
 
 // Whether a board shows just those bytes.
 fn shows(board: &Board<128>, bytes: &[u8]) -> bool {
-    let mut rest = bytes;
-    for at in 0..128 {
-        let Some(row) = board.row(at) else {
-            return false;
-        };
-        let n = row.len();
-        if n > rest.len() {
-            return false;
-        }
-        let part = &rest[0..n];
-        if row != part {
-            return false;
-        }
-        rest = &rest[n..];
-    }
-    rest.is_empty()
+    (0..128)
+        .filter_map(|at| board.row(at))
+        .flatten()
+        .eq(bytes.iter())
 }
 
 fn run(rt: &HostRuntime) -> anyhow::Result<()> {
@@ -122,32 +64,27 @@ fn run(rt: &HostRuntime) -> anyhow::Result<()> {
     rt.stdin().read_to_end(&mut card)?;
 
     // the customer's copy: from an index, through the line layer, on a roll
-    let mut index = made(Index::<32>::new())?;
+    let mut index = Index::<32>::new()?;
     let bad = take_card(rt.alloc(), &mut index, &card)?;
-    let mut paper = Lines::new(made(Roll::<4096>::new())?);
+    let mut paper = Lines::new(Roll::<4096>::new()?);
     let printed = print_card(&index, index.rows(), &mut paper);
     paper.settle();
 
     // the shop's copy: from a sheet, on a board
-    let mut sheet = made(Sheet::<32>::new())?;
+    let mut sheet = Sheet::<32>::new()?;
     let _ = take_card(rt.alloc(), &mut sheet, &card)?;
-    let mut board = made(Board::<128>::new())?;
+    let mut board = Board::<128>::new()?;
     let _ = print_card(&sheet, index.rows(), &mut board);
 
-    for b in bad.iter() {
-        let line = b.line;
-        print!(rt; "line {line}: ")?;
-        report(rt, b.refusal)?;
+    for line in &bad {
+        println!(rt; "{line}")?;
     }
     let roll = paper.into_below();
     rt.write_all(roll.bytes())?;
     if let Err(refusal) = printed {
-        rt.write_all(b"\n")?;
-        report(rt, refusal)?;
+        println!(rt; "\n{refusal}")?;
     }
-    if !shows(&board, roll.bytes()) {
-        return Err(anyhow!("the shop's copy differs"));
-    }
+    ensure!(shows(&board, roll.bytes()), "the shop's copy differs");
     let names = count_names(&index);
     let length = roll.len();
     println!(rt; "done names={names} paper={length}")?;

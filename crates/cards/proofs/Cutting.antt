@@ -1,49 +1,27 @@
--- Bytes before and behind the first of a kind, byte by byte. Assumes nothing.
-use Rattle.std.proofs.Common.{◌≡◌, ℕ, ◌+◌, ◌-◌, ◌<◌, ◌≤◌, true, false, ◌||◌, eqb, List, [], ◌∷◌, ◌++◌, length, get_or, take, drop, sym, refl, ap, ◌∙◌, append_assoc, append-nil, arith}
-use Rattle.std.proofs.lemmas.List.{at_drop_more, at_drop_all, take_more, take_all, take_rest}
-use Rattle.std.proofs.lemmas.Bool.{eq-eqb, ne_eqb, cond-true, cond-false}
-use Rattle.cards.specs.Cuts.{has, before, behind, NotThere, Cut}
+-- Bytes before and behind the first of a kind, by its place. Assumes nothing.
+use Rattle.std.proofs.Common.{◌≡◌, ℕ, suc, ◌+◌, Bool, true, false, eqb, ltb, List, [], ◌∷◌, length, Option, Some, None, cond, sym, refl, ◌∙◌, subst, arith}
+use Rattle.std.specs.List.{list_any, position, position_or_len}
+use Rattle.std.specs.Option.{MatchOption}
+use Rattle.std.proofs.lemmas.Bool.{lt-ltb, ltb-true, ltb-false}
+use Rattle.std.proofs.lemmas.Bool.Decides.{nat_tests}
+use Rattle.std.proofs.lemmas.List.{take_all}
+use Rattle.cards.specs.Cuts.{NotThere, Cut}
 
-module _ (b : ℕ) (bs : List ℕ) where
-  -- none of the first i bytes is b
-  pub record Past (i : ℕ) : Type 0 where
-    pub still : has b (drop i bs) ≡ has b bs
-    pub front : take i bs ++ before b (drop i bs) ≡ before b bs
-    pub back : behind b (drop i bs) ≡ behind b bs
+ltb_both : (m n : ℕ) → ltb m n ≡ ltb (1 + m) (suc n)
+ltb_both m n = grind (arith, nat_tests)
 
-  pub past_none : Past 0
-  past_none = record { still = refl; front = refl; back = refl }
+-- a list has an element that passes where its first is within
+has_position : (p : ℕ → Bool) (xs : List ℕ) → list_any p xs ≡ ltb (position_or_len p xs) (length xs)
+has_position p [] = refl
+has_position p (x ∷ xs) = by (p x) refl (has_position p xs)
+  where
+    by : (t : Bool) → p x ≡ t → list_any p xs ≡ ltb (position_or_len p xs) (length xs) → list_any p (x ∷ xs) ≡ ltb (position_or_len p (x ∷ xs)) (length (x ∷ xs))
+    by true e h = simp e (sym (lt-ltb 0 _ (omega arith)))
+    by false e h = simp (e, h) (ltb_both _ _)
 
-  module _ (i : ℕ) (within : i < length bs) (p : Past i) where
-    pub past_more : (get_or bs i 0 ≡ b → ⊥) → Past (i + 1)
-    past_more n =
-        let other : eqb (get_or bs i 0) b ≡ false = ne_eqb _ _ n in
-        record {
-          still = sym (at_drop_more (has b) bs i 0 within ∙ ap (λ t. t || has b (drop (i + 1) bs)) other) ∙ p.still;
-          front = ap (λ t. t ++ before b (drop (i + 1) bs)) (take_more bs i 0 within) ∙ append_assoc (take i bs) (get_or bs i 0 ∷ []) (before b (drop (i + 1) bs))
-              ∙ ap (λ t. take i bs ++ t) (sym (at_drop_more (before b) bs i 0 within ∙ cond-false _ _ _ other)) ∙ p.front;
-          back = sym (at_drop_more (behind b) bs i 0 within ∙ cond-false _ _ _ other) ∙ p.back;
-        }
-
-    pub past_found : get_or bs i 0 ≡ b → Cut b bs i
-    past_found e =
-        let here : eqb (get_or bs i 0) b ≡ true = eq-eqb _ _ e in
-        record {
-          some = sym p.still ∙ at_drop_more (has b) bs i 0 within ∙ ap (λ t. t || has b (drop (i + 1) bs)) here;
-          within = within;
-          front = sym (append-nil (take i bs)) ∙ ap (λ t. take i bs ++ t) (sym (at_drop_more (before b) bs i 0 within ∙ cond-true _ _ _ here)) ∙ p.front;
-          back = sym (at_drop_more (behind b) bs i 0 within ∙ cond-true _ _ _ here) ∙ p.back;
-        }
-
-  pub past_all : (i : ℕ) → length bs ≤ i → Past i → NotThere b bs
-  past_all i end p = record {
-    none = sym p.still ∙ at_drop_all (has b) bs i end;
-    all = sym p.front ∙ ap (λ t. take i bs ++ t) (at_drop_all (before b) bs i end) ∙ append-nil (take i bs) ∙ take_all i bs end;
-  }
-
--- the parts of a slice that is cut, as the checker reads them
-pub front_part : {b : ℕ} (bs : List ℕ) (i : ℕ) → Cut b bs i → take (i - 0) bs ≡ before b bs
-front_part bs i c = ap (λ n. take n bs) (let z : i - 0 ≡ i = omega arith in z) ∙ c.front
-
-pub back_part : {b : ℕ} (bs : List ℕ) (i : ℕ) → Cut b bs i → take (length bs - (i + 1)) (drop (i + 1) bs) ≡ behind b bs
-back_part bs i c = take_rest bs (i + 1) ∙ c.back
+pub found : (b : ℕ) (bs : List ℕ) (r : Option ℕ) → r ≡ position (λ x. eqb x b) bs → MatchOption r (NotThere b bs) (λ i. Cut b bs i)
+found b bs r e = let P : Option ℕ → Type 0 = λ o. MatchOption o (NotThere b bs) (λ i. Cut b bs i) in subst P (sym e) (by (ltb (position_or_len (λ x. eqb x b) bs) (length bs)) refl)
+  where
+    by : (t : Bool) → ltb (position_or_len (λ x. eqb x b) bs) (length bs) ≡ t → MatchOption (cond t (Some (position_or_len (λ x. eqb x b) bs)) None) (NotThere b bs) (λ i. Cut b bs i)
+    by true h = record { some = has_position _ bs ∙ h; within = ltb-true _ _ h; front = refl; back = refl }
+    by false h = record { none = has_position _ bs ∙ h; all = take_all _ bs (ltb-false _ _ h) }

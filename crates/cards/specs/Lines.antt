@@ -1,5 +1,6 @@
 -- What a line of a card says. Assumes nothing.
 use Rattle.std.specs.Prelude.{ℕ, Bool, cond, not, ◌&&◌, ◌||◌, List, [], ◌∷◌, ◌++◌, length, ℤ, Some, None, Ok, Err, Result, ◌==◌, nat_le, nat_lt}
+use Rattle.std.specs.List.{slice_split}
 use Rattle.refusals.specs.Refusals.{answered}
 use Rattle.refusals.specs.declared.Refusal.{Refusal}
 use Rattle.refusals.specs.declared.Refusal.TheVariants.{BadName, BadValue}
@@ -42,14 +43,9 @@ lawful_piece p = nat_le (length p) 32 && (not (written p) || fits p)
 abbrev pub element : List ℕ → Elem
 element p = cond (written p) (both (number p) p) (text p)
 
-abbrev pub extended : ℕ → List (List ℕ) → List (List ℕ)
-extended b [] = (b ∷ []) ∷ []
-extended b (p ∷ ps) = (b ∷ p) ∷ ps
-
 -- the pieces between commas
 abbrev pub pieces : List ℕ → List (List ℕ)
-pieces [] = [] ∷ []
-pieces (b ∷ bs) = cond (b == 44) ([] ∷ pieces bs) (extended b (pieces bs))
+pieces bs = slice_split (λ b. b == 44) bs
 
 -- the elements of pieces, behind those so far; an unlawful piece or a seventeenth element is 18
 abbrev pub elements_in : List Elem → List (List ℕ) → Result (List Elem) Refusal

@@ -4,7 +4,7 @@ ghost use Rattle.refusals.specs.Refusals.{meant};
 ghost use Rattle.cards.specs.Filed.{Files, pair_means};
 ghost use Rattle.cards.specs.Lines.{line_in};
 
-use super::cut::find;
+use super::cut::split_once;
 use super::line::{read_key, read_value};
 use keys::key::Key;
 use refusals::Refusal;
@@ -12,16 +12,15 @@ use store::Store;
 use values::value::Value;
 
 // A line: a key, a space and a value. The key is judged first.
+// By a function: a pair of other crates' types cannot have a `TryFrom` here.
 pub fn read_line(line: &[u8]) -> Result<(Key, Value), Refusal>
     ensures { meant pair_means result ≡ line_in line.now }
 {
-    let Some(at) = find(line, b' ') else {
+    let Some((key, value)) = split_once(line, b' ') else {
         let _ = read_key(line)?;
         return Err(Refusal::BadValue);
     };
-    let key = read_key(&line[0..at])?;
-    let value = read_value(&line[at + 1..])?;
-    Ok((key, value))
+    Ok((read_key(key)?, read_value(value)?))
 }
 
 // Sets in a store what a line says.

@@ -1,4 +1,5 @@
 // A line of a card: a key, a space and a value.
+// By functions: keys, values and elements are types of other crates, so their `TryFrom` cannot stand here.
 ghost use Rattle.std.specs.Prelude.{◌≡◌, ◌&&◌, [], ◌∷◌, ◌++◌, length, if◌then◌else◌, Some, None, nat_lt};
 ghost use Rattle.refusals.specs.Refusals.{Guarded, answered, meant};
 ghost use Rattle.refusals.specs.declared.Refusal.TheVariants.{BadName, BadValue};
@@ -7,7 +8,7 @@ ghost use Rattle.values.specs.Means.{element_means, value_means};
 ghost use Rattle.cards.specs.Cuts.{before};
 ghost use Rattle.cards.specs.Lines.{written, fits, number, subscripts, key_in, lawful_piece, element, value_in};
 
-use super::cut::find;
+use super::cut::split_once;
 use keys::key::Key;
 use keys::name::Name;
 use numbers::read::{is_numeral, read_number};
@@ -20,19 +21,17 @@ use values::value::Value;
 fn is_written(bytes: &[u8]) -> bool
     ensures { result ≡ written bytes.now }
 {
-    (bytes.is_empty() || bytes[0] != b'+') && is_numeral(bytes)
+    !bytes.starts_with(b"+") && is_numeral(bytes)
 }
 
 // The number that digits with an optional `-` write, if it has 64 bits.
 fn written_number(bytes: &[u8]) -> Option<i64>
     ensures { result ≡ (if written bytes.now && fits bytes.now then Some (number bytes.now) else None) }
 {
-    if !is_written(bytes) {
-        return None;
-    }
-    match read_number(bytes) {
-        Ok(n) => Some(n),
-        Err(_) => None,
+    if is_written(bytes) {
+        read_number(bytes).ok()
+    } else {
+        None
     }
 }
 
@@ -40,50 +39,38 @@ fn written_number(bytes: &[u8]) -> Option<i64>
 fn read_element(piece: &[u8]) -> Result<Element, Refusal>
     ensures { meant element_means result ≡ answered (lawful_piece piece.now) (element piece.now) BadValue }
 {
-    let Ok(text) = Text::new(piece) else {
-        return Err(Refusal::BadValue);
-    };
+    let text = Text::try_from(piece).map_err(|_| Refusal::BadValue)?;
     if !is_written(piece) {
         return Ok(Element::Text(text));
     }
-    match read_number(piece) {
-        Ok(n) => Ok(Element::Both(n, text)),
-        Err(_) => Err(Refusal::BadValue),
-    }
+    let n = read_number(piece).map_err(|_| Refusal::BadValue)?;
+    Ok(Element::Both(n, text))
 }
 
 // The number in `NUMBER]`, with nothing behind it.
 fn read_subscript(bytes: &[u8]) -> Option<i64>
     ensures { result ≡ (if subscripts bytes.now then Some (number (before 93 bytes.now)) else None) }
 {
-    let Some(end) = find(bytes, b']') else {
-        return None;
-    };
-    if end + 1 < bytes.len() {
-        return None;
+    match split_once(bytes, b']')? {
+        (number, []) => written_number(number),
+        _ => None,
     }
-    written_number(&bytes[0..end])
 }
 
 // A key: `NAME` or `NAME[NUMBER]`.
 pub(crate) fn read_key(bytes: &[u8]) -> Result<Key, Refusal>
     ensures { meant key_means result ≡ key_in bytes.now }
 {
-    let Some(at) = find(bytes, b'[') else {
-        let name = Name::new(bytes)?;
+    let Some((name, rest)) = split_once(bytes, b'[') else {
+        let name = Name::try_from(bytes)?;
         return Ok(Key {
             name,
             subscript: None,
         });
     };
-    let name = Name::new(&bytes[0..at])?;
-    match read_subscript(&bytes[at + 1..]) {
-        Some(n) => Ok(Key {
-            name,
-            subscript: Some(n),
-        }),
-        None => Err(Refusal::BadName),
-    }
+    let name = Name::try_from(name)?;
+    let subscript = Some(read_subscript(rest).ok_or(Refusal::BadName)?);
+    Ok(Key { name, subscript })
 }
 
 // One element more, last.
@@ -91,10 +78,7 @@ fn add(value: &mut Value, piece: &[u8]) -> Result<(), Refusal>
     ensures { Guarded (lawful_piece piece.now && nat_lt (length (value_means value.old)) 16) (value_means value.old) (value_means value.old ++ element piece.now ∷ []) (value_means value.new) BadValue result }
 {
     let element = read_element(piece)?;
-    match value.push(element) {
-        Ok(()) => Ok(()),
-        Err(_) => Err(Refusal::BadValue),
-    }
+    value.push(element).map_err(|_| Refusal::BadValue)
 }
 
 // A value: elements parted by commas.
@@ -105,11 +89,8 @@ pub(crate) fn read_value(bytes: &[u8]) -> Result<Value, Refusal>
     if bytes.is_empty() {
         return Ok(value);
     }
-    let mut rest = bytes;
-    while let Some(at) = find(rest, b',') {
-        add(&mut value, &rest[0..at])?;
-        rest = &rest[at + 1..];
+    for piece in bytes.split(|b| *b == b',') {
+        add(&mut value, piece)?;
     }
-    add(&mut value, rest)?;
     Ok(value)
 }

@@ -18,7 +18,7 @@ fn lawful_names(rt: HostRuntime) {
         b"a23456789012345678901234",
     ];
     for name in lawful {
-        assert!(rt; Name::new(name).is_ok());
+        assert!(rt; Name::try_from(name).is_ok());
     }
     let unlawful: [&[u8]; 7] = [
         b"",
@@ -30,7 +30,7 @@ fn lawful_names(rt: HostRuntime) {
         b"a234567890123456789012345",
     ];
     for name in unlawful {
-        assert!(rt; Name::new(name).is_err());
+        assert!(rt; Name::try_from(name).is_err());
     }
 }
 

@@ -6,15 +6,14 @@ use refusals::Refusal;
 use std::test::Fail;
 use values::element::Element;
 use values::given::Given;
-use values::judge::judge_value;
 use values::text::Text;
 use values::value::Value;
 
 #[test]
 fn lowest_and_highest(rt: HostRuntime) {
-    assert!(rt; Numeral::new(i64::MIN).as_bytes() == b"-9223372036854775808".as_slice());
-    assert!(rt; Numeral::new(i64::MAX).as_bytes() == b"9223372036854775807".as_slice());
-    assert!(rt; Numeral::new(0).as_bytes() == b"0".as_slice());
+    assert!(rt; Numeral::from(i64::MIN).as_bytes() == b"-9223372036854775808".as_slice());
+    assert!(rt; Numeral::from(i64::MAX).as_bytes() == b"9223372036854775807".as_slice());
+    assert!(rt; Numeral::from(0).as_bytes() == b"0".as_slice());
     assert!(rt; matches!(read_number(b"-9223372036854775808"), Ok(i64::MIN)));
     assert!(rt; matches!(read_number(b"+9223372036854775807"), Ok(i64::MAX)));
     assert!(rt; matches!(read_number(b"9223372036854775808"), Err(Refusal::Overflow)));
@@ -24,10 +23,10 @@ fn lowest_and_highest(rt: HostRuntime) {
 
 #[test]
 fn texts_of_32_bytes(rt: HostRuntime) -> Result<(), Fail> {
-    assert!(rt; Text::new(&[65; 32]).is_ok());
-    assert!(rt; Text::new(&[65; 33]).is_err());
+    assert!(rt; Text::try_from([65; 32].as_slice()).is_ok());
+    assert!(rt; Text::try_from([65; 33].as_slice()).is_err());
     let mut one = Value::new();
-    one.push(Element::Text(Text::new(&[65; 31])?))?;
+    one.push(Element::Text(Text::try_from([65; 31].as_slice())?))?;
     let mut digit = Value::new();
     digit.push(Element::Number(7))?;
     assert!(rt; concat(&one, &digit).is_ok());
@@ -39,7 +38,7 @@ fn texts_of_32_bytes(rt: HostRuntime) -> Result<(), Fail> {
 
 #[test]
 fn sixteen_elements(rt: HostRuntime) -> Result<(), Fail> {
-    let text = Text::new(&[65; 32])?;
+    let text = Text::try_from([65; 32].as_slice())?;
     let mut value = Value::new();
     for _ in 0..16 {
         value.push(Element::Both(1, text))?;
@@ -71,17 +70,17 @@ fn judged_values(rt: HostRuntime) -> Result<(), Fail> {
             text: Some(b"one"),
         },
     ];
-    let value = judge_value(&lawful)?;
+    let value = Value::try_from(lawful.as_slice())?;
     assert!(rt; value_form(&value).as_slice() == b"-3,one".as_slice());
     let neither = [Given {
         number: None,
         text: None,
     }];
-    assert!(rt; judge_value(&neither).is_err());
+    assert!(rt; Value::try_from(neither.as_slice()).is_err());
     let too_many = [Given {
         number: Some(1),
         text: None,
     }; 17];
-    assert!(rt; judge_value(&too_many).is_err());
+    assert!(rt; Value::try_from(too_many.as_slice()).is_err());
     Ok(())
 }

@@ -1,103 +1,82 @@
--- Sorted rows, after each change. Assumes nothing.
-use Rattle.std.proofs.Common.{◌≡◌, ℕ, Bool, true, false, cond, ◌&&◌, ltb, leb, List, map, length, set, None, Ok, Err, sym, refl, ap, ◌∙◌}
-use lib.ListN.{length-map}
+-- Sorted rows: what the place of a key says, and each change at that place. Assumes nothing.
+use Rattle.std.proofs.Common.{◌≡◌, ℕ, Bool, true, false, cond, ltb, List, map, length, get_or, set, is_some, Some, Ok, Err, Result, sym, refl, ap, ◌∙◌}
 use Rattle.std.specs.List.{insert, remove}
-use Rattle.std.proofs.lemmas.Bool.{lt-ltb, le-leb, cond-true, cond-false}
-use Rattle.refusals.specs.declared.Refusal.TheVariants.{UnsetKey, StoreFull}
-use Rattle.order.specs.Orders.{sorted, Located}
+use Rattle.std.specs.Result.{result_ok, is_ok}
+use Rattle.std.proofs.lemmas.Bool.{lt-ltb, ltb-true, cond-true}
+use Rattle.std.proofs.lemmas.Grind.{common_steps}
+use Rattle.std.proofs.lemmas.List.{get_or_default}
+use Rattle.order.specs.Orders.{sorted}
 use Rattle.order.specs.Names.{key_of}
 use Rattle.order.proofs.Entries.{sorted-map, put-sorted, remove-sorted}
-use Rattle.order.proofs.Rowed.{lookup_at, lookup_none, put_at, put_new as put-between, remove_at}
+use Rattle.order.proofs.Rowed.{lookup_at, lookup_none, put_at, put_new, remove_at}
 use Rattle.keys.specs.KeyMeans.{key_means}
 use Rattle.keys.specs.KeyOrder.{KeyName, key_order}
+use Rattle.values.specs.Forms.{Elem}
 use Rattle.values.specs.Means.{value_means}
-use Rattle.store.specs.Names.{Names, value_at, with, without}
+use Rattle.store.specs.Names.{Names, value_at, is_set, with, without}
 use Rattle.store.specs.EntryMeans.{entry_means}
 use Rattle.store.specs.declared.entry.Entry.{Entry}
-use Rattle.store.proofs.Guards.{Puts, Removes, put_over, put_new, put_full, remove_set, remove_unset}
 use Rattle.store.proofs.Places.{some_row}
+use Rattle.index.specs.IndexMeans.{Placed}
 
-abbrev pub Sorted : List Entry → Type 0
+abbrev Sorted : List Entry → Type 0
 Sorted rows = sorted key_order (λ e. key_of (entry_means e)) rows ≡ true
-
--- the answers of the search
-abbrev pub Found : List Entry → KeyName → ℕ → Type 0
-Found rows k i = Located key_order (λ e. key_of (entry_means e)) rows k (Ok i)
-
-abbrev pub Missing : List Entry → KeyName → ℕ → Type 0
-Missing rows k i = Located key_order (λ e. key_of (entry_means e)) rows k (Err i)
 
 rising : (rows : List Entry) → Sorted rows → sorted key_order key_of (map entry_means rows) ≡ true
 rising rows s = sorted-map key_order entry_means key_of rows ∙ s
 
 -- rows that stand for sorted names are sorted
-sorted_back : (rows : List Entry) (names : Names) → map entry_means rows ≡ names → sorted key_order key_of names ≡ true → Sorted rows
-sorted_back rows names e s = sym (sorted-map key_order entry_means key_of rows) ∙ ap (sorted key_order key_of) e ∙ s
+sorted_as : (rows : List Entry) (names : Names) → map entry_means rows ≡ names → sorted key_order key_of names ≡ true → Sorted rows
+sorted_as rows names e s = sym (sorted-map key_order entry_means key_of rows) ∙ ap (sorted key_order key_of) e ∙ s
 
-pub missing_value : (rows : List Entry) (k : KeyName) → Sorted rows → (i : ℕ) → Missing rows k i → value_at k (map entry_means rows) ≡ None
-missing_value rows k s i at = lookup_none key_order entry_means rows k s i at
+-- so are rows that stand for such names after a put
+put_sorted : (rows after : List Entry) (k : KeyName) (v : List Elem) → map entry_means after ≡ with k v (map entry_means rows) → Sorted rows → Sorted after
+put_sorted rows after k v e s = sorted_as after _ e (put-sorted key_order k v (map entry_means rows) (rising rows s))
 
-module _ (rows : List Entry) (s : Sorted rows) (i : ℕ) (after : List Entry) where
-  module _ (n : ℕ) (row : Entry) where
-    put_rows : map entry_means after ≡ with (key_means row.key) (value_means row.value) (map entry_means rows) → Sorted after
-    put_rows e = sorted_back after _ e (put-sorted key_order (key_means row.key) (value_means row.value) (map entry_means rows) (rising rows s))
+module _ (rows : List Entry) (k : KeyName) where
+  -- a key is set exactly where it has a place
+  pub is_set_placed : (r : Result ℕ ℕ) → Placed rows k r → Sorted rows → is_set k (map entry_means rows) ≡ is_ok r
+  is_set_placed (Ok i) at s = ap is_some (lookup_at key_order entry_means rows k s i (some_row rows i at.0) at)
+  is_set_placed (Err i) at s = ap is_some (lookup_none key_order entry_means rows k s i at)
 
-    -- the row at place i is overwritten
-    module _ (at : Found rows (key_means row.key) i) (e : after ≡ cond (ltb i (length rows)) (set rows i row) rows) where
-      set_names : map entry_means after ≡ with (key_means row.key) (value_means row.value) (map entry_means rows)
-      set_names =
-          ap (map entry_means) (e ∙ cond-true _ _ _ (lt-ltb _ _ at.0))
-          ∙ sym (put_at key_order entry_means rows (key_means row.key) s i row at (value_means row.value) row refl)
+  pub value_placed : (i : ℕ) (d : Entry) (r : Result ℕ ℕ) → Placed rows k r → Some i ≡ result_ok r → Sorted rows → value_at k (map entry_means rows) ≡ Some (value_means (get_or rows i d).value)
+  value_placed i d (Ok j) at e s = let h : i ≡ j = cc in rw h (lookup_at key_order entry_means rows k s j d at)
+  value_placed i d (Err j) at e s = cc
 
-      pub set_sorted : Sorted after
-      set_sorted = put_rows set_names
+module _ (rows : List Entry) (i : ℕ) (row : Entry) where
+  pub set_names : Placed rows (key_means row.key) (Ok i) → Sorted rows → map entry_means (set rows i row) ≡ with (key_means row.key) (value_means row.value) (map entry_means rows)
+  set_names at s = sym (put_at key_order entry_means rows (key_means row.key) s i row at (value_means row.value) row refl)
 
-      pub set_done : Puts n (map entry_means rows) (key_means row.key) (value_means row.value) (map entry_means after) (Ok tt)
-      set_done =
-          put_over n (map entry_means rows) (key_means row.key) (value_means row.value) (map entry_means after) _
-          (lookup_at key_order entry_means rows (key_means row.key) s i row at) set_names
+  pub set_sorted : Placed rows (key_means row.key) (Ok i) → Sorted rows → Sorted (set rows i row)
+  set_sorted at s = put_sorted rows _ _ _ (set_names at s) s
 
-    -- a row goes in at place i, where there is room
-    module _ (at : Missing rows (key_means row.key) i) where
-      insert_names : after ≡ insert rows i row → map entry_means after ≡ with (key_means row.key) (value_means row.value) (map entry_means rows)
-      insert_names e = ap (map entry_means) e ∙ sym (put-between key_order entry_means rows (key_means row.key) s i at (value_means row.value) row refl)
+  pub insert_names : Placed rows (key_means row.key) (Err i) → Sorted rows → map entry_means (insert rows i row) ≡ with (key_means row.key) (value_means row.value) (map entry_means rows)
+  insert_names at s = sym (put_new key_order entry_means rows (key_means row.key) s i at (value_means row.value) row refl)
 
-      either_sorted : (room : Bool) → after ≡ cond room (insert rows i row) rows → Sorted after
-      either_sorted true e = put_rows (insert_names e)
-      either_sorted false e = ap (sorted key_order (λ x. key_of (entry_means x))) e ∙ s
+  pub insert_sorted : Placed rows (key_means row.key) (Err i) → Sorted rows → Sorted (insert rows i row)
+  insert_sorted at s = put_sorted rows _ _ _ (insert_names at s) s
 
-      -- the place is within the rows, so only room can be lacking
-      room_is : (r : Bool) → (leb i (length rows) && ltb (length rows) n) ≡ r → ltb (length (map entry_means rows)) n ≡ r
-      room_is r h = ap (λ m. ltb m n) (length-map rows entry_means) ∙ sym (ap (λ t. t && ltb (length rows) n) (le-leb i (length rows) at.0)) ∙ h
+-- the rows after the one at a place is taken out, if there is such a place
+abbrev taken : List Entry → ℕ → List Entry
+taken rows i = cond (ltb i (length rows)) (remove rows i) rows
 
-      module _ (e : after ≡ cond (leb i (length rows) && ltb (length rows) n) (insert rows i row) rows) where
-        pub insert-sorted : Sorted after
-        insert-sorted = either_sorted (leb i (length rows) && ltb (length rows) n) e
+pub taken_names : (rows : List Entry) (i : ℕ) (k : KeyName) → Placed rows k (Ok i) → Sorted rows → map entry_means (taken rows i) ≡ without k (map entry_means rows)
+taken_names rows i k at s = rw (cond-true _ _ _ (lt-ltb _ _ at.0)) (sym (remove_at key_order entry_means rows k s i (some_row rows i at.0) at))
 
-        module _ (r : Bool) (answer : r ≡ (leb i (length rows) && ltb (length rows) n)) where
-          pub insert_done : r ≡ true → Puts n (map entry_means rows) (key_means row.key) (value_means row.value) (map entry_means after) (Ok tt)
-          insert_done h =
-              put_new n (map entry_means rows) (key_means row.key) (value_means row.value) (map entry_means after) (missing_value rows (key_means row.key) s i at)
-              (room_is true (sym answer ∙ h)) (insert_names (e ∙ cond-true _ _ _ (sym answer ∙ h)))
+-- whichever row goes
+pub taken_sorted : (rows : List Entry) (i : ℕ) → Sorted rows → Sorted (taken rows i)
+taken_sorted rows i s = by_cases (ltb i (length rows)) refl
+  where
+    by_cases : (b : Bool) → ltb i (length rows) ≡ b → Sorted (cond b (remove rows i) rows)
+    by_cases true l =
+        let h = ltb-true i (length rows) l in
+        let d = some_row rows i h in
+        let k = key_means (get_or rows i d).key in
+        let at : Placed rows k (Ok i) = (h, λ x. ap (λ y. key_means y.key) (get_or_default rows i x d h)) in
+        sorted_as (remove rows i) _ (sym (remove_at key_order entry_means rows k s i d at)) (remove-sorted key_order k (map entry_means rows) (rising rows s))
+    by_cases false l = s
 
-          pub insert_refused : r ≡ false → Puts n (map entry_means rows) (key_means row.key) (value_means row.value) (map entry_means after) (Err StoreFull)
-          insert_refused h =
-              put_full n (map entry_means rows) (key_means row.key) (value_means row.value) (map entry_means after) (missing_value rows (key_means row.key) s i at)
-              (room_is false (sym answer ∙ h)) (ap (map entry_means) (e ∙ cond-false _ _ _ (sym answer ∙ h)))
+-- what a put and a removal need
+pub ruleset puts = (common_steps, is_set_placed, set_names, set_sorted, insert_names, insert_sorted)
 
-  -- the row at place i, at key k, goes out
-  module _ (k : KeyName) (at : Found rows k i) (e : after ≡ cond (ltb i (length rows)) (remove rows i) rows) where
-    remove_names : map entry_means after ≡ without k (map entry_means rows)
-    remove_names =
-        ap (map entry_means) (e ∙ cond-true _ _ _ (lt-ltb _ _ at.0))
-        ∙ sym (remove_at key_order entry_means rows k s i (some_row rows i at.0) at)
-
-    pub removed_sorted : Sorted after
-    removed_sorted = sorted_back after _ remove_names (remove-sorted key_order k (map entry_means rows) (rising rows s))
-
-    pub removed_done : Removes (map entry_means rows) k (map entry_means after) (Ok tt)
-    removed_done = remove_set (map entry_means rows) k (map entry_means after) _ (lookup_at key_order entry_means rows k s i (some_row rows i at.0) at) remove_names
-
--- no row at key k, so nothing changes
-pub nothing_removed : (rows : List Entry) (k : KeyName) → Sorted rows → (i : ℕ) → Missing rows k i → Removes (map entry_means rows) k (map entry_means rows) (Err UnsetKey)
-nothing_removed rows k s i at = remove_unset (map entry_means rows) k (map entry_means rows) (missing_value rows k s i at) refl
+pub ruleset removes = (is_set_placed, taken_names, taken_sorted)

@@ -13,6 +13,7 @@ use store::entry::Entry;
 
 pub mod rows;
 
+// No model: the laws of `Store` would have to hold of every list of keys, sorted or not.
 #[derive(Drop)]
 pub struct Index<const N: usize> {
     rows: ArrayVec<Entry, N>,

@@ -2,16 +2,18 @@
 ghost use Rattle.std.specs.Prelude.{◌≡◌, [], map, nat_le};
 ghost use Rattle.refusals.specs.Refusals.{answered, meant};
 ghost use Rattle.refusals.specs.declared.Refusal.TheVariants.{OutOfRange};
+ghost use Rattle.arrays.specs.Items.{items};
+ghost use Rattle.keys.specs.KeyMeans.{key_means};
 ghost use Rattle.store.specs.EntryMeans.{entry_means};
-ghost use Rattle.index.specs.IndexMeans.{index_names, names_ordered, names_within};
+ghost use Rattle.index.specs.IndexMeans.{Placed, index_names, names_ordered, names_within};
 
 use super::Index;
 use arrays::ArrayVec;
 use keys::key::Key;
 use order::search;
 use refusals::Refusal;
-use store::Store;
 use store::entry::Entry;
+use store::{MOST_KEYS, Store};
 use values::value::Value;
 
 impl<const N: usize> Index<N> {
@@ -19,7 +21,7 @@ impl<const N: usize> Index<N> {
     pub fn new() -> Result<Index<N>, Refusal>
         ensures { meant index_names result ≡ answered (nat_le N 512) [] OutOfRange }
     {
-        if N > 512 {
+        if N > MOST_KEYS {
             return Err(Refusal::OutOfRange);
         }
         Ok(Index {
@@ -32,6 +34,13 @@ impl<const N: usize> Index<N> {
         ensures { map entry_means result.now ≡ index_names self.now }
     {
         self.rows.as_slice()
+    }
+
+    // The place of a key's row, or the place where it would go.
+    fn place(&self, key: &Key) -> Result<usize, usize>
+        ensures { Placed (items self.now.rows) (key_means key.now) result }
+    {
+        search(self.rows.as_slice(), key)
     }
 }
 
@@ -46,42 +55,32 @@ impl<const N: usize> Store for Index<N> {
 
     ghost lawful = { λ s. s.lawful };
 
+    #[tactic(auto, using(crate::proofs::Changes::is_set_placed, crate::proofs::Changes::value_placed))]
     fn ask(&self, key: &Key) -> Option<Value> {
-        let rows = self.rows.as_slice();
-        match search(rows, key) {
-            Ok(at) => Some(rows[at].value),
-            Err(_) => None,
-        }
+        let at = self.place(key).ok()?;
+        Some(self.rows.as_slice()[at].value)
     }
 
+    #[tactic(auto, using(crate::proofs::Changes::puts))]
     fn put(&mut self, key: &Key, value: &Value) -> Result<(), Refusal> {
         let row = Entry {
             key: *key,
             value: *value,
         };
-        match search(self.rows.as_slice(), key) {
+        match self.place(key) {
             Ok(at) => {
                 self.rows.write(at, row);
                 Ok(())
             }
-            Err(at) => {
-                if self.rows.insert(at, row) {
-                    Ok(())
-                } else {
-                    Err(Refusal::StoreFull)
-                }
-            }
+            Err(at) => self.rows.insert(at, row).map_err(|_| Refusal::StoreFull),
         }
     }
 
+    #[tactic(auto, using(crate::proofs::Changes::removes))]
     fn remove(&mut self, key: &Key) -> Result<(), Refusal> {
-        match search(self.rows.as_slice(), key) {
-            Ok(at) => {
-                self.rows.remove(at);
-                Ok(())
-            }
-            Err(_) => Err(Refusal::UnsetKey),
-        }
+        let at = self.place(key).map_err(|_| Refusal::UnsetKey)?;
+        self.rows.remove(at);
+        Ok(())
     }
 
     fn len(&self) -> usize {

@@ -19,7 +19,7 @@ fn number(n: i64) -> Value {
 
 fn plain(name: &[u8]) -> Result<Key, Refusal> {
     Ok(Key {
-        name: Name::new(name)?,
+        name: Name::try_from(name)?,
         subscript: None,
     })
 }
@@ -73,9 +73,7 @@ fn sheet_fills(rt: HostRuntime) -> Result<(), Fail> {
 fn index_fills(rt: HostRuntime) -> Result<(), Fail> {
     let mut index = Index::<2>::new()?;
     check_store(&rt, &mut index)?;
-    let Some(first) = index.rows().first() else {
-        return Err(Fail::new("no rows"));
-    };
+    let first = index.rows().first().ok_or("no rows")?;
     assert!(rt; first.key.name.as_bytes() == b"A".as_slice());
     Ok(())
 }

@@ -13,6 +13,7 @@ use store::entry::Entry;
 mod find;
 pub mod rows;
 
+// No model, as of an index: the laws of `Store` would have to hold of every list of keys.
 #[derive(Drop)]
 pub struct Sheet<const N: usize> {
     rows: ArrayVec<Entry, N>,

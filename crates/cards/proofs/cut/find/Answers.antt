@@ -1,14 +1,8 @@
-use Rattle.cards.proofs.Cutting.{past_none, past_more, past_found, past_all}
+use Rattle.std.proofs.Common.{eqb, rules, tests}
+use Rattle.std.proofs.lemmas.Iterator.{YieldsList-from_slice}
+use Rattle.std.proofs.lemmas.Iterator.Search.{position_from_yields_List}
+use Rattle.cards.proofs.Cutting.{found}
 use Rattle.cards.proofs.cut.find.Goals as goal
 
-pub loop-i-init : goal.loop-i-init
-loop-i-init c = past_none c.args.b c.args.bytes.now
-
-pub returns-then-x-b : goal.returns-then-x-b
-returns-then-x-b c = past_found c.args.b c.args.bytes.now c.loop-i.i c.loop-i-test.true c.loop-i.invariant c.if-x-b.true
-
-pub loop-i-preserved : goal.loop-i-preserved
-loop-i-preserved c = past_more c.args.b c.args.bytes.now c.loop-i.i c.loop-i-test.true c.loop-i.invariant c.if-x-b.false
-
 pub returns : goal.returns
-returns c = past_all c.args.b c.args.bytes.now c.loop-i.i c.loop-i-test.false c.loop-i.invariant
+returns c = found c.args.b c.args.bytes.now _ (position_from_yields_List (λ x. eqb x c.args.b) _ _ _ c.position.ensures.ran (YieldsList-from_slice c.args.bytes.now cc) (λ x b q k. search (rules, tests)))
