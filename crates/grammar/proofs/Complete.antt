@@ -22,7 +22,7 @@ use Rattle.tokens.specs.Bytes.{start, after, class, blank, digit, letter, word, 
 use Rattle.tokens.specs.Operators.{level, sign_byte, doubled, alone}
 use Rattle.trees.specs.declared.Constant.{Constant}
 use Rattle.trees.specs.declared.Quote.{Quote}
-use Rattle.trees.specs.Tree.{Key, Expr, Args, Seq, Item, Items}
+use Rattle.trees.specs.Tree.{Key, Expr, Args, Seq, Item, Items, from_to}
 use Rattle.grammar.specs.Rules.{Broken, broken_number, large, arrival, lengthy, long, wide, room, in_choice, in_block, open_blocks}
 use Rattle.grammar.specs.Machine
 use Rattle.grammar.specs.Machine.{Bracket, Head, Stack, Run, Numbered, Join, Quoted, Digits, Config, Move, stop, go, Out, onward, step, late, function, pushed, afters, nameds, wants, firsts, texts, escapes, parts, closes, completes, quotes, assigns, halves, single, numbers, numbereds, constant_at, first_digit, bares, commands, worded, looped, loop_head, lasts, joined}
@@ -296,22 +296,22 @@ module _ (text : List ℕ) where
   number_first k p lt e = moves false text (Config.want k) p _ lt (ap (λ s. wants s (get_or text p 0) k p) (digit_start (get_or text p 0) e))
 
   -- a number constant as an operand
-  pub numeral : (c : Constant) → Numeral text c → (k : Stack) → c.to < length text → word (get_or text c.to 0) ≡ false → reads text (Config.want k) c.«from» ≡ reads text (Config.aft (Expr.number c) k) c.to
+  pub numeral : (c : Constant) → Numeral text c → (k : Stack) → c.span.to < length text → word (get_or text c.span.to 0) ≡ false → reads text (Config.want k) c.span.«from» ≡ reads text (Config.aft (Expr.number c) k) c.span.to
   numeral c n k in-text w =
       let d = number_digit n in
-      number_first k c.«from» d.0 d.1
+      number_first k c.span.«from» d.0 d.1
       ∙ number_run n (Numbered.operand k) in-text w
-      ∙ free_late text c.to (broken_number c) (step (Config.aft (Expr.number c) k) c.to (get_or text c.to 0))
-      ∙ sym (on false text (Config.aft (Expr.number c) k) c.to in-text)
+      ∙ free_late text c.span.to (broken_number c) (step (Config.aft (Expr.number c) k) c.span.to (get_or text c.span.to 0))
+      ∙ sym (on false text (Config.aft (Expr.number c) k) c.span.to in-text)
 
   -- and as the last of a sequence
-  pub numeral_last : (c : Constant) → Numeral text c → (r : Run) → c.to < length text → word (get_or text c.to 0) ≡ false → reads text (Config.last_wanted r) c.«from» ≡ reads text (Config.last_done c r) c.to
+  pub numeral_last : (c : Constant) → Numeral text c → (r : Run) → c.span.to < length text → word (get_or text c.span.to 0) ≡ false → reads text (Config.last_wanted r) c.span.«from» ≡ reads text (Config.last_done c r) c.span.to
   numeral_last c n r in-text w =
       let d = number_digit n in
-      moves false text (Config.last_wanted r) c.«from» _ d.0 (cond-false _ _ _ (digit_solid (get_or text c.«from» 0) d.1) ∙ cond-true _ _ _ d.1)
+      moves false text (Config.last_wanted r) c.span.«from» _ d.0 (cond-false _ _ _ (digit_solid (get_or text c.span.«from» 0) d.1) ∙ cond-true _ _ _ d.1)
       ∙ number_run n (Numbered.last r) in-text w
-      ∙ free_late text c.to (large c ++ arrival r.first r.second c ++ lengthy c) (step (Config.last_done c r) c.to (get_or text c.to 0))
-      ∙ sym (on false text (Config.last_done c r) c.to in-text)
+      ∙ free_late text c.span.to (large c ++ arrival r.first r.second c ++ lengthy c) (step (Config.last_done c r) c.span.to (get_or text c.span.to 0))
+      ∙ sym (on false text (Config.last_done c r) c.span.to in-text)
     where
       digit_solid : (b : ℕ) → digit b ≡ true → blank b ≡ false
       digit_solid b e = grind (arith, nat_tests)
@@ -434,11 +434,11 @@ chars_run {text} (Grammar.escaped {n = n} {j = j} b c a h e) q g =
     ∙ ap (reads text (Config.in_text q (n + 1) g)) two
 
 -- a text constant after its first quote
-text_run : (text : List ℕ) (t : Quote) → Text text t → (g : Quoted) → reads text (Config.in_text t.«from» 0 g) (t.«from» + 1) ≡ reads text (Config.quoted t g) t.to
+text_run : (text : List ℕ) (t : Quote) → Text text t → (g : Quoted) → reads text (Config.in_text t.span.«from» 0 g) (t.span.«from» + 1) ≡ reads text (Config.quoted t g) t.span.to
 text_run text t x g =
-    chars_run x.chars t.«from» g
-    ∙ moves false text (Config.in_text t.«from» t.bytes g) x.last _ x.closes.0 (ap (λ b. texts (class b) t.«from» t.bytes g x.last) x.closes.1)
-    ∙ ap (λ z. reads text (Config.quoted (record { «from» = t.«from»; to = z; bytes = t.bytes }) g) z) (sym x.ends)
+    chars_run x.chars t.span.«from» g
+    ∙ moves false text (Config.in_text t.span.«from» t.bytes g) x.last _ x.closes.0 (ap (λ b. texts (class b) t.span.«from» t.bytes g x.last) x.closes.1)
+    ∙ ap (λ z. reads text (Config.quoted (record { span = from_to t.span.«from» z; bytes = t.bytes }) g) z) (sym x.ends)
 
 -- signs and operators on the stack come together at a byte that follows
 assigns_binary : (q : ℕ) (o : Op) (l t : Expr) (k : Stack) (b p : ℕ) → assigns t (Stack.binary q o l k) b p ≡ stop
@@ -815,22 +815,22 @@ module _ (text : List ℕ) where
       ∙ stays false text (Config.dots 0 r) (dots_stays r) (x + 3) f bl'
       ∙ moves false text (Config.dots 0 r) f _ z.0 (ap (step (Config.dots 0 r) f) z.1)
 
-  sequence_run : (q : ℕ) (s : Seq) (k : Stack) (i d e f : ℕ) (a b c : Constant) → Blanks text i a.«from» → Numeral text a → Blanks text a.to d → At text d 44 → Blanks text (d + 1) b.«from» → Numeral text b → Blanks text b.to e → At text e 44 → Dots text (e + 1) f → At text f 44 → Blanks text (f + 1) c.«from» → Numeral text c → Follow text 1 c.to → reads text (Config.want (Stack.open' (Bracket.curly q s 0) k)) i ≡ reads text (ended_list q (Seq.steps s a b c) 0 k) c.to
+  sequence_run : (q : ℕ) (s : Seq) (k : Stack) (i d e f : ℕ) (a b c : Constant) → Blanks text i a.span.«from» → Numeral text a → Blanks text a.span.to d → At text d 44 → Blanks text (d + 1) b.span.«from» → Numeral text b → Blanks text b.span.to e → At text e 44 → Dots text (e + 1) f → At text f 44 → Blanks text (f + 1) c.span.«from» → Numeral text c → Follow text 1 c.span.to → reads text (Config.want (Stack.open' (Bracket.curly q s 0) k)) i ≡ reads text (ended_list q (Seq.steps s a b c) 0 k) c.span.to
   sequence_run q s k i d e f a b c bl na bl₁ z₁ bl₂ nb bl₃ z₂ ds z₃ bl₄ nc fol =
       let r : Run = record { place = q; items = s; first = a; second = b; stack = k } in
       let k₀ : Stack = Stack.open' (Bracket.curly q s 0) k in
       let k₁ : Stack = Stack.open' (Bracket.curly q (Seq.item s (Expr.number a)) 1) k in
-      let fa : Follow text 1 a.to = follow_by text 1 a.to d 44 bl₁ z₁ tt in
-      let fb : Follow text 1 b.to = follow_by text 1 b.to e 44 bl₃ z₂ tt in
-      blank_want text k₀ i a.«from» bl
-      ∙ numeral text a na k₀ (follow_inner 1 a.to fa) (follow_word text 1 a.to fa)
-      ∙ next_item q s 0 (Expr.number a) k a.to d bl₁ z₁
-      ∙ blank_want text k₁ (d + 1) b.«from» bl₂
-      ∙ numeral text b nb k₁ (follow_inner 1 b.to fb) (follow_word text 1 b.to fb)
-      ∙ next_item q (Seq.item s (Expr.number a)) 1 (Expr.number b) k b.to e bl₃ z₂
+      let fa : Follow text 1 a.span.to = follow_by text 1 a.span.to d 44 bl₁ z₁ tt in
+      let fb : Follow text 1 b.span.to = follow_by text 1 b.span.to e 44 bl₃ z₂ tt in
+      blank_want text k₀ i a.span.«from» bl
+      ∙ numeral text a na k₀ (follow_inner 1 a.span.to fa) (follow_word text 1 a.span.to fa)
+      ∙ next_item q s 0 (Expr.number a) k a.span.to d bl₁ z₁
+      ∙ blank_want text k₁ (d + 1) b.span.«from» bl₂
+      ∙ numeral text b nb k₁ (follow_inner 1 b.span.to fb) (follow_word text 1 b.span.to fb)
+      ∙ next_item q (Seq.item s (Expr.number a)) 1 (Expr.number b) k b.span.to e bl₃ z₂
       ∙ dots_run q s a b k ds z₃
-      ∙ stays false text (Config.last_wanted r) (last_wanted_stays r) (f + 1) c.«from» bl₄
-      ∙ numeral_last text c nc r (follow_inner 1 c.to fol) (follow_word text 1 c.to fol)
+      ∙ stays false text (Config.last_wanted r) (last_wanted_stays r) (f + 1) c.span.«from» bl₄
+      ∙ numeral_last text c nc r (follow_inner 1 c.span.to fol) (follow_word text 1 c.span.to fol)
 
   -- `,` after some items
   next_comma : (q : ℕ) (s : Seq) (n : ℕ) {s₀ : Seq} {i j : ℕ} → Commas text s₀ s i j → (k : Stack) (a b : ℕ) → Blanks text a b → At text b 44 → reads text (ended_list q s n k) a ≡ reads text (Config.want (Stack.open' (Bracket.curly q s (suc n)) k)) (b + 1)
@@ -855,13 +855,13 @@ module _ (text : List ℕ) where
         ∙ spells s (Stack.signed a g k) (omega arith) (follow_more text 11 12 (omega arith) fol)
         ∙ collapse_sign text 11 a g t k j fol
     spells (Grammar.number {i = i} c bl n) k below fol =
-        blank_want text k i c.«from» bl
-        ∙ numeral text c n k (follow_inner 12 c.to fol) (follow_word text 12 c.to fol)
+        blank_want text k i c.span.«from» bl
+        ∙ numeral text c n k (follow_inner 12 c.span.to fol) (follow_word text 12 c.span.to fol)
     spells (Grammar.quote {i = i} t bl x) k below fol =
-        blank_want text k i t.«from» bl
-        ∙ wants_on k t.«from» 34 _ x.opens refl
+        blank_want text k i t.span.«from» bl
+        ∙ wants_on k t.span.«from» 34 _ x.opens refl
         ∙ text_run text t x (Quoted.operand k)
-        ∙ late_alike text (Config.quoted t (Quoted.operand k)) (Config.aft (Expr.text t) k) t.to (wide t) (follow_inner 12 t.to fol) refl
+        ∙ late_alike text (Config.quoted t (Quoted.operand k)) (Config.aft (Expr.text t) k) t.span.to (wide t) (follow_inner 12 t.span.to fol) refl
     spells (Grammar.key s) k below fol = keyed s k fol
     spells (Grammar.call {i = i} {a = a} {b = b} {c = c} {e = e} {s = s} bl n bl' h r z) k below fol =
         named_run text i a b c k bl n (omega (arith, bl'.onwards, h.0)) bl'
@@ -1042,9 +1042,9 @@ module _ (text : List ℕ) where
       let waits : Join = record { place = i; word = b; «from» = x; to = y; list = t; items = ts } in
       let here : Stack = Stack.top i (Head.joineach b x y) ts in
       word_loop keyword.Joineach (room (open_blocks ts) i b) true (i + 1) a b x y i ts bl w bl' n (begin_inner y (begins s)) refl
-      ∙ spells text s here tt (follow_by text 1 j d.«from» 34 bl'' d'.opens tt)
-      ∙ blank_aft text t here j d.«from» bl''
-      ∙ afters_on text t here d.«from» 34 d'.opens
+      ∙ spells text s here tt (follow_by text 1 j d.span.«from» 34 bl'' d'.opens tt)
+      ∙ blank_aft text t here j d.span.«from» bl''
+      ∙ afters_on text t here d.span.«from» 34 d'.opens
       ∙ text_run text d d' (Quoted.delimiter waits)
-      ∙ late_alike text (Config.quoted d (Quoted.delimiter waits)) (Config.bare (joined waits d) ts) d.to (wide d) (omega (arith, bl'''.onwards, z.0)) refl
-      ∙ until_bare (joined waits d) ts d.to k bl''' z
+      ∙ late_alike text (Config.quoted d (Quoted.delimiter waits)) (Config.bare (joined waits d) ts) d.span.to (wide d) (omega (arith, bl'''.onwards, z.0)) refl
+      ∙ until_bare (joined waits d) ts d.span.to k bl''' z

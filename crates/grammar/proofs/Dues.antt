@@ -619,7 +619,7 @@ Here (Config.in_number i n g) p = Base n
 Here (Config.in_name i w k) p = Unit {0}
 Here (Config.in_text i n g) p = Unit {0}
 Here (Config.escape i n g) p = Unit {0}
-Here (Config.quoted t g) p = t.to ≡ p
+Here (Config.quoted t g) p = t.span.to ≡ p
 Here (Config.named i j w k) p = Unit {0}
 Here (Config.aft t k) p = Unit {0}
 Here (Config.half q h t k) p = Unit {0}
@@ -904,14 +904,14 @@ lasts_falls past.Dollar c r p = tt
 lasts_falls past.Quote c r p = tt
 lasts_falls past.Other c r p = tt
 
-large_due : (c : Constant) → Due c.to (large c)
-large_due c = breaks_due _ _ _ c.to
+large_due : (c : Constant) → Due c.span.to (large c)
+large_due c = breaks_due _ _ _ c.span.to
 
-lengthy_due : (c : Constant) → Due c.to (lengthy c)
-lengthy_due c = breaks_due _ _ _ c.to
+lengthy_due : (c : Constant) → Due c.span.to (lengthy c)
+lengthy_due c = breaks_due _ _ _ c.span.to
 
-arrival_due : (a b c : Constant) → Due c.to (arrival a b c)
-arrival_due a b c = breaks_due _ _ _ c.to
+arrival_due : (a b c : Constant) → Due c.span.to (arrival a b c)
+arrival_due a b c = breaks_due _ _ _ c.span.to
 
 numbereds_falls : (g : Numbered) (i v b p : ℕ) → Falls p (numbereds g (constant_at i p v) b p)
 numbereds_falls (Numbered.operand k) i v b p =
@@ -930,11 +930,11 @@ numbers_falls Digits.nought i g b p h =
 numbers_falls Digits.prefix i g b p h = cond_both (ltb (digit_value b) 16) _ _ (Falls p) (λ yes. (tt, omega arith)) (λ no. tt)
 numbers_falls (Digits.digits n v) i g b p h = cond_both (ltb (digit_value b) n) _ _ (Falls p) (λ yes. (tt, h)) (λ no. numbereds_falls g i v b p)
 
-quoteds_falls : (g : Quoted) (t : Quote) (b p : ℕ) → t.to ≡ p → Falls p (quoteds g t b p)
+quoteds_falls : (g : Quoted) (t : Quote) (b p : ℕ) → t.span.to ≡ p → Falls p (quoteds g t b p)
 quoteds_falls g t b p e = by_use g
   where
     wide_due : Due p (wide t)
-    wide_due = subst (λ x. Due x (wide t)) e (breaks_due _ _ _ t.to)
+    wide_due = subst (λ x. Due x (wide t)) e (breaks_due _ _ _ t.span.to)
 
     by_use : (g : Quoted) → Falls p (quoteds g t b p)
     by_use (Quoted.operand k) = late_falls p (wide t) _ wide_due (afters_falls (after b) (Expr.text t) k p)

@@ -390,20 +390,20 @@ module _ (text : List ℕ) where
 
   -- a sequence
   pub lasts_next : (x : After) (c : Constant) (r : Run) (p : ℕ) → p < length text → after (get_or text p 0) ≡ x → LastDone text c r p → Next text p (lasts x c r)
-  lasts_next past.Blank c r p lt e h = record { begin = h.begin; upto = h.upto; group = h.group; gap = every_more blank text c.to p h.gap lt (after_blank (get_or text p 0) e) }
+  lasts_next past.Blank c r p lt e h = record { begin = h.begin; upto = h.upto; group = h.group; gap = every_more blank text c.span.to p h.gap lt (after_blank (get_or text p 0) e) }
   lasts_next (past.Single o) c r p lt e h = tt
   lasts_next (past.Double g) c r p lt e h = tt
   lasts_next (past.Separator Comma) c r p lt e h = tt
   lasts_next (past.Separator Semicolon) c r p lt e h =
-      list_parts r.place r.stack (Seq.steps r.items r.first r.second c) c.to p
-      (list_row r.place r.stack r.items (Seq.steps r.items r.first r.second c) 0 h.begin c.to refl h.upto h.group) h.gap (lt, separator_is (get_or text p 0) Semicolon e)
+      list_parts r.place r.stack (Seq.steps r.items r.first r.second c) c.span.to p
+      (list_row r.place r.stack r.items (Seq.steps r.items r.first r.second c) 0 h.begin c.span.to refl h.upto h.group) h.gap (lt, separator_is (get_or text p 0) Semicolon e)
   lasts_next past.Round c r p lt e h = tt
   lasts_next past.Square c r p lt e h = tt
   lasts_next (past.End Round) c r p lt e h = tt
   lasts_next (past.End Square) c r p lt e h = tt
   lasts_next (past.End Curly) c r p lt e h =
-      list_ends r.place r.stack (Seq.steps r.items r.first r.second c) c.to p
-      (list_row r.place r.stack r.items (Seq.steps r.items r.first r.second c) 0 h.begin c.to refl h.upto h.group) h.gap (lt, end_is (get_or text p 0) Curly e)
+      list_ends r.place r.stack (Seq.steps r.items r.first r.second c) c.span.to p
+      (list_row r.place r.stack r.items (Seq.steps r.items r.first r.second c) 0 h.begin c.span.to refl h.upto h.group) h.gap (lt, end_is (get_or text p 0) Curly e)
   lasts_next past.Dollar c r p lt e h = tt
   lasts_next past.Quote c r p lt e h = tt
   lasts_next past.Other c r p lt e h = tt
@@ -618,7 +618,7 @@ module _ (text : List ℕ) where
   quoteds_next (Quoted.operand k) t p lt h =
       late_next text p (wide t) (afters (after (get_or text p 0)) (Expr.text t) k p)
       (afters_next (after (get_or text p 0)) (Expr.text t) k p lt refl
-      (record { from = h.told.from; upto = h.told.upto; to = t.to; spells = Grammar.quote t h.told.blanks h.quote; gap = subst (λ q. Blanks text q p) (sym h.is) (none_here text p lt) }))
+      (record { from = h.told.from; upto = h.told.upto; to = t.span.to; spells = Grammar.quote t h.told.blanks h.quote; gap = subst (λ q. Blanks text q p) (sym h.is) (none_here text p lt) }))
   quoteds_next (Quoted.delimiter j) t p lt h =
       let o = h.told in
       late_next text p (wide t) (bares (get_or text p 0) (joined j t) j.items p)
@@ -627,7 +627,7 @@ module _ (text : List ℕ) where
         place = j.place;
         begun = o.worded.begun;
         dollar = o.worded.dollar;
-        to = t.to;
+        to = t.span.to;
         says = λ k bl. Grammar.joineach t o.worded.blanks o.worded.command o.blanks o.name o.spells o.gap h.quote bl;
         gap = subst (λ q. Blanks text q p) (sym h.is) (none_here text p lt);
       }))

@@ -56,19 +56,19 @@ one_long i j = one (leb (j - i) 24) six i j
 one_deep : (d q : ℕ) → Between (16 * q + 7) (16 * q + 7) (deep d q)
 one_deep d q = one (ltb d 12) seven q q
 
-one_wide : (t : Quote) → Between (16 * t.to + 6) (16 * t.to + 6) (wide t)
-one_wide t = one (leb t.bytes 32) six t.«from» t.to
+one_wide : (t : Quote) → Between (16 * t.span.to + 6) (16 * t.span.to + 6) (wide t)
+one_wide t = one (leb t.bytes 32) six t.span.«from» t.span.to
 
-one_large : (c : Constant) → Between (16 * c.to + 5) (16 * c.to + 5) (large c)
-one_large c = one (leb c.value 9223372036854775807) five c.«from» c.to
+one_large : (c : Constant) → Between (16 * c.span.to + 5) (16 * c.span.to + 5) (large c)
+one_large c = one (leb c.value 9223372036854775807) five c.span.«from» c.span.to
 
-one_lengthy : (c : Constant) → Between (16 * c.to + 6) (16 * c.to + 6) (lengthy c)
-one_lengthy c = one (leb (c.to - c.«from») 32) six c.«from» c.to
+one_lengthy : (c : Constant) → Between (16 * c.span.to + 6) (16 * c.span.to + 6) (lengthy c)
+one_lengthy c = one (leb (c.span.to - c.span.«from») 32) six c.span.«from» c.span.to
 
-one_arrival : (a b c : Constant) → Between (16 * c.to + 5) (16 * c.to + 5) (arrival a b c)
-one_arrival a b c = one _ five a.«from» c.to
+one_arrival : (a b c : Constant) → Between (16 * c.span.to + 5) (16 * c.span.to + 5) (arrival a b c)
+one_arrival a b c = one _ five a.span.«from» c.span.to
 
-one_number : (c : Constant) → Between (16 * c.to + 5) (16 * c.to + 6) (broken_number c)
+one_number : (c : Constant) → Between (16 * c.span.to + 5) (16 * c.span.to + 6) (broken_number c)
 one_number c = join (one_large c) (omega arith) (one_lengthy c)
 
 module _ (text : List ℕ) where
@@ -82,7 +82,7 @@ module _ (text : List ℕ) where
   chars_on (Grammar.plain c h q e l) = omega (arith, chars_on c)
   chars_on (Grammar.escaped b c e a h) = omega (arith, chars_on c)
 
-  text_on : (t : Quote) → Text text t → t.«from» < t.to
+  text_on : (t : Quote) → Text text t → t.span.«from» < t.span.to
   text_on t x = omega (arith, chars_on x.chars)
 
   dots_on : {i j : ℕ} → Dots text i j → i < j

@@ -20,7 +20,7 @@ use Rattle.tokens.specs.Bytes.{after}
 use Rattle.tokens.specs.Operators.{level, doubled}
 use Rattle.trees.specs.declared.Constant.{Constant}
 use Rattle.trees.specs.declared.Quote.{Quote}
-use Rattle.trees.specs.Tree.{Key, Expr, Args, Seq, Opening, Item, Items}
+use Rattle.trees.specs.Tree.{Key, Expr, Args, Seq, Opening, Item, Items, from_to}
 use Rattle.grammar.specs.Rules
 use Rattle.grammar.specs.Rules.{Rule, refusal_of, Broken, Opened, open_blocks, broken_items, unclosed, broken_rules}
 use Rattle.grammar.specs.Machine
@@ -364,7 +364,7 @@ closing (Stack.top q (Head.elif j) ts) t p = plain_completes (p + 1) (Items.then
 closing (Stack.top q (Head.while j) ts) t p = plain_completes (p + 1) (Items.then ts (Item.opens q j (Opening.while t))) (p + 1)
 closing (Stack.top q (Head.foreach j x y) ts) t p = plain_completes (p + 1) (Items.then ts (Item.opens q j (Opening.foreach x y t))) (p + 1)
 closing (Stack.top q (Head.joineach j x y) ts) t p =
-    delimiter_completes (record { «from» = p; to = p + 1 + 1; bytes = 0 }) (record { place = q; word = j; «from» = x; to = y; list = t; items = ts }) (p + 1 + 1)
+    delimiter_completes (record { span = from_to p (p + 1 + 1); bytes = 0 }) (record { place = q; word = j; «from» = x; to = y; list = t; items = ts }) (p + 1 + 1)
 closing (Stack.binary q o l k) t p = let h = closing k (Expr.binary q o l t) p in (h.0, as_other k [] _ _ p (λ e. through_binary e q o l t k p ∙ late_none _) ∙ h.1)
 closing (Stack.signed q g k) t p = let h = closing k (Expr.signed q g t) p in (h.0, as_other k [] _ _ p (λ e. through_sign e q g t k p ∙ late_none _) ∙ h.1)
 closing (Stack.open' (Bracket.round q) k) t p = closing k (Expr.round q t) (p + 1)
@@ -461,7 +461,7 @@ quoted_completes t (Quoted.delimiter j) p = delimiter_completes t j p
 
 text_completes : (i n : ℕ) (g : Quoted) (p : ℕ) → Completes (34 ∷ close_quoted g) (Config.in_text i n g) p
 unfolding run
-text_completes i n g p = quoted_completes (record { «from» = i; to = p + 1; bytes = n }) g (p + 1)
+text_completes i n g p = quoted_completes (record { span = from_to i (p + 1); bytes = n }) g (p + 1)
 
 -- operators of two bytes
 operator_completes : (b : ℕ) (o : Op) (q : ℕ) (h : Half) (t : Expr) (k : Stack) (p : ℕ) → doubled h b ≡ Some o → (s : List ℕ) × Completes s (Config.half q h t k) p

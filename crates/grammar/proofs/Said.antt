@@ -106,15 +106,15 @@ key_of c e (Grammar.list bl a s z) = absurd (let z : ◌≡◌ {A = ℕ} 0 1 = c
 key_of c e (Grammar.round bl a s gap z) = absurd (let z : ◌≡◌ {A = ℕ} 0 1 = cc in omega arith)
 
 pub record IsNumber (text : List ℕ) (c : Constant) (i j : ℕ) : Type 0 where
-  pub blanks : Blanks text i c.«from»
+  pub blanks : Blanks text i c.span.«from»
   pub numeral : Numeral text c
-  pub ends : j ≡ c.to
+  pub ends : j ≡ c.span.to
 
 pub number_of : {text : List ℕ} {n i j : ℕ} {t : Expr} (c : Constant) → t ≡ Expr.number c → Spells text n t i j → IsNumber text c i j
 number_of c e (Grammar.tighter s) = number_of c e s
 number_of c e (Grammar.binary o l sl bl wr sr) = absurd (let z : ◌≡◌ {A = ℕ} 0 1 = cc in omega arith)
 number_of c e (Grammar.signed s bl a t) = absurd (let z : ◌≡◌ {A = ℕ} 0 1 = cc in omega arith)
-number_of {text} {n} {i} {j} c e (Grammar.number a bl nu) = let same : a ≡ c = cc in subst (λ c. IsNumber text c i a.to) same (record { blanks = bl; numeral = nu; ends = refl })
+number_of {text} {n} {i} {j} c e (Grammar.number a bl nu) = let same : a ≡ c = cc in subst (λ c. IsNumber text c i a.span.to) same (record { blanks = bl; numeral = nu; ends = refl })
 number_of c e (Grammar.quote t bl q) = absurd (let z : ◌≡◌ {A = ℕ} 0 1 = cc in omega arith)
 number_of c e (Grammar.key h) = absurd (let z : ◌≡◌ {A = ℕ} 0 1 = cc in omega arith)
 number_of c e (Grammar.call bl nm gap a s z) = absurd (let z : ◌≡◌ {A = ℕ} 0 1 = cc in omega arith)
@@ -188,14 +188,14 @@ module _ (text : List ℕ) where
   pub record Paired (r : Run) (e : ℕ) : Type 0 where
     pub begin : ℕ
     pub upto : Upto text (Stack.open' (Bracket.curly r.place r.items 0) r.stack) begin
-    pub blanks : Blanks text begin r.first.«from»
+    pub blanks : Blanks text begin r.first.span.«from»
     pub numeral : Numeral text r.first
     pub place : ℕ
-    pub gap : Blanks text r.first.to place
+    pub gap : Blanks text r.first.span.to place
     pub comma : At text place 44
-    pub blanks_next : Blanks text (place + 1) r.second.«from»
+    pub blanks_next : Blanks text (place + 1) r.second.span.«from»
     pub numeral_next : Numeral text r.second
-    pub gap_next : Blanks text r.second.to e
+    pub gap_next : Blanks text r.second.span.to e
     pub comma_next : At text e 44
 
   pub record DotOne (r : Run) (p : ℕ) : Type 0 where
@@ -237,8 +237,8 @@ module _ (text : List ℕ) where
   pub record LastDone (c : Constant) (r : Run) (p : ℕ) : Type 0 where
     pub begin : ℕ
     pub upto : Upto text (Stack.open' (Bracket.curly r.place r.items 0) r.stack) begin
-    pub group : Group text r.items (Seq.steps r.items r.first r.second c) begin c.to
-    pub gap : Blanks text c.to p
+    pub group : Group text r.items (Seq.steps r.items r.first r.second c) begin c.span.to
+    pub gap : Blanks text c.span.to p
 
   -- a number constant may begin at i
   abbrev pub Placed : Numbered → ℕ → Type 0
@@ -321,9 +321,9 @@ module _ (text : List ℕ) where
     pub is : p ≡ place + 1
 
   pub record QuoteDone (t : Quote) (g : Quoted) (p : ℕ) : Type 0 where
-    pub told : Told g t.«from»
+    pub told : Told g t.span.«from»
     pub quote : Text text t
-    pub is : t.to ≡ p
+    pub is : t.span.to ≡ p
 
   -- a complete instruction, and blanks up to p
   pub record Bare (t : Item) (ts : Items) (p : ℕ) : Type 0 where

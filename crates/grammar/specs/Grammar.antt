@@ -46,7 +46,7 @@ pub data Number (text : List ℕ) (i j : ℕ) : ℕ → Type 0 where
   hexadecimal : At text i 48 → (At text (i + 1) 120) ⊎ (At text (i + 1) 88) → i + 2 < j → Every (digit_in 16) text (i + 2) j → Number text i j (valued 16 0 (part text (i + 2) j))
 
 abbrev pub Numeral : List ℕ → Constant → Type 0
-Numeral text c = Number text c.«from» c.to c.value
+Numeral text c = Number text c.span.«from» c.span.to c.value
 
 -- letters, digits, `_` or `.` from i to j, as long as it goes, a letter or `_` first
 pub record Word (text : List ℕ) (i j : ℕ) : Type 0 where
@@ -74,10 +74,10 @@ pub data Chars (text : List ℕ) : ℕ → ℕ → ℕ → Type 0 where
 -- a text constant
 pub record Text (text : List ℕ) (t : Quote) : Type 0 where
   pub last : ℕ
-  pub opens : At text t.«from» 34
-  pub chars : Chars text t.bytes (t.«from» + 1) last
+  pub opens : At text t.span.«from» 34
+  pub chars : Chars text t.bytes (t.span.«from» + 1) last
   pub closes : At text last 34
-  pub ends : t.to ≡ last + 1
+  pub ends : t.span.to ≡ last + 1
 
 -- the bytes of an operator of one byte and of two
 abbrev pub One : List ℕ → ℕ → ℕ → ℕ → Type 0
@@ -114,8 +114,8 @@ mutual
     -- operators group to the left: the right side is tighter
     binary : {n : ℕ} {l r : Expr} {i a b c j : ℕ} (o : Op) → level o ≡ n → Spells text n l i a → Blanks text a b → Written text o b c → Spells text (n + 1) r c j → Spells text n (Expr.binary b o l r) i j
     signed : {t : Expr} {i a j : ℕ} (s : Sign) → Blanks text i a → At text a (sign_byte s) → Spells text 12 t (a + 1) j → Spells text 11 (Expr.signed a s t) i j
-    number : {i : ℕ} (c : Constant) → Blanks text i c.«from» → Numeral text c → Spells text 12 (Expr.number c) i c.to
-    quote : {i : ℕ} (t : Quote) → Blanks text i t.«from» → Text text t → Spells text 12 (Expr.text t) i t.to
+    number : {i : ℕ} (c : Constant) → Blanks text i c.span.«from» → Numeral text c → Spells text 12 (Expr.number c) i c.span.to
+    quote : {i : ℕ} (t : Quote) → Blanks text i t.span.«from» → Text text t → Spells text 12 (Expr.text t) i t.span.to
     key : {k : Key} {i j : ℕ} → Keyed text k i j → Spells text 12 (Expr.key k) i j
     call : {i a b c e : ℕ} {s : Args} → Blanks text i a → Name text a b → Blanks text b c → At text c 40 → Listed text s (c + 1) e → At text e 41 → Spells text 12 (Expr.call a b c (function (part text a b)) s e) i (e + 1)
     list : {i a e : ℕ} {s : Seq} → Blanks text i a → At text a 123 → ItemsOf text s (a + 1) e → At text e 125 → Spells text 12 (Expr.list a s) i (e + 1)
@@ -147,7 +147,7 @@ mutual
   -- a group behind the items s₀: expressions with a comma between each two, or a sequence
   pub data Group (text : List ℕ) : Seq → Seq → ℕ → ℕ → Type 0 where
     expressions : {i j : ℕ} {s₀ s : Seq} → Commas text s₀ s i j → Group text s₀ s i j
-    sequence : {s : Seq} {i d e f : ℕ} (a b c : Constant) → Blanks text i a.«from» → Numeral text a → Blanks text a.to d → At text d 44 → Blanks text (d + 1) b.«from» → Numeral text b → Blanks text b.to e → At text e 44 → Dots text (e + 1) f → At text f 44 → Blanks text (f + 1) c.«from» → Numeral text c → Group text s (Seq.steps s a b c) i c.to
+    sequence : {s : Seq} {i d e f : ℕ} (a b c : Constant) → Blanks text i a.span.«from» → Numeral text a → Blanks text a.span.to d → At text d 44 → Blanks text (d + 1) b.span.«from» → Numeral text b → Blanks text b.span.to e → At text e 44 → Dots text (e + 1) f → At text f 44 → Blanks text (f + 1) c.span.«from» → Numeral text c → Group text s (Seq.steps s a b c) i c.span.to
 
   pub data Commas (text : List ℕ) : Seq → Seq → ℕ → ℕ → Type 0 where
     item : {i j : ℕ} {s : Seq} {t : Expr} → Spells text 1 t i j → Commas text s (Seq.item s t) i j
@@ -167,7 +167,7 @@ pub data Says (text : List ℕ) : Item → ℕ → ℕ → Type 0 where
   end : {i a b k : ℕ} → Blanks text (i + 1) a → Command text keyword.End a b → Blanks text b k → Says text (Item.end i b) i k
   while : {t : Expr} {i a b j k : ℕ} → Blanks text (i + 1) a → Command text keyword.While a b → Spells text 1 t b j → Blanks text j k → Says text (Item.opens i b (Opening.while t)) i k
   foreach : {t : Expr} {i a b x y j k : ℕ} → Blanks text (i + 1) a → Command text keyword.Foreach a b → Blanks text b x → Name text x y → Spells text 1 t y j → Blanks text j k → Says text (Item.opens i b (Opening.foreach x y t)) i k
-  joineach : {t : Expr} {i a b x y j k : ℕ} (d : Quote) → Blanks text (i + 1) a → Command text keyword.Joineach a b → Blanks text b x → Name text x y → Spells text 1 t y j → Blanks text j d.«from» → Text text d → Blanks text d.to k → Says text (Item.opens i b (Opening.joineach x y t d)) i k
+  joineach : {t : Expr} {i a b x y j k : ℕ} (d : Quote) → Blanks text (i + 1) a → Command text keyword.Joineach a b → Blanks text b x → Name text x y → Spells text 1 t y j → Blanks text j d.span.«from» → Text text d → Blanks text d.span.to k → Says text (Item.opens i b (Opening.joineach x y t d)) i k
 
 -- a byte of a plain piece
 abbrev pub Plainly : List ℕ → ℕ → Type 0

@@ -29,7 +29,7 @@ use Rattle.tokens.specs.Bytes.{start, after, class, blank, digit, letter, word, 
 use Rattle.tokens.specs.Operators.{level, doubled, alone}
 use Rattle.trees.specs.declared.Constant.{Constant}
 use Rattle.trees.specs.declared.Quote.{Quote}
-use Rattle.trees.specs.Tree.{Key, Expr, Args, Seq, Opening, Item, Items, count_args}
+use Rattle.trees.specs.Tree.{Key, Expr, Args, Seq, Opening, Item, Items, from_to, count_args}
 use Rattle.grammar.specs.Rules.{refusal_of, Broken, large, lengthy, wide, long, deep, known, counted, arrival, broken_number, open_blocks, room, in_choice, in_block, unclosed}
 
 -- a bracket that stands open, with its place and what it holds so far
@@ -426,7 +426,7 @@ numbereds (Numbered.last r) c b p = late (large c ++ arrival r.first r.second c 
 
 -- the constant from i to p with the value v
 abbrev pub constant_at : ℕ → ℕ → ℕ → Constant
-constant_at i p v = record { «from» = i; to = p; value = v }
+constant_at i p v = record { span = from_to i p; value = v }
 
 -- the byte b at p inside a number constant
 abbrev pub numbers : Digits → ℕ → Numbered → ℕ → ℕ → Move
@@ -452,7 +452,7 @@ row n r b d q e x o is.Other = o
 abbrev pub texts : Class → ℕ → ℕ → Quoted → ℕ → Move
 texts cl i n g p =
     let on = go [] (in_text i (n + 1) g) in
-    row stop on on on (go [] (quoted (record { «from» = i; to = p + 1; bytes = n }) g)) (go [] (escape i n g)) on on cl
+    row stop on on on (go [] (quoted (record { span = from_to i (p + 1); bytes = n }) g)) (go [] (escape i n g)) on on cl
 
 abbrev pub escapes : Class → ℕ → ℕ → Quoted → Move
 escapes cl i n g =

@@ -32,14 +32,14 @@ breaks false r q p = record { rule = r; place = q; due = p } ∷ []
 
 -- a number constant is at most 9223372036854775807, and has at most 32 bytes as written; due at the byte after it
 abbrev pub large : Constant → List Broken
-large c = breaks (nat_le c.value 9223372036854775807) five c.«from» c.to
+large c = breaks (nat_le c.value 9223372036854775807) five c.span.«from» c.span.to
 
 abbrev pub lengthy : Constant → List Broken
-lengthy c = breaks (nat_le (c.to - c.«from») 32) six c.«from» c.to
+lengthy c = breaks (nat_le (c.span.to - c.span.«from») 32) six c.span.«from» c.span.to
 
 -- a text constant has at most 32 bytes after escapes; due at the byte after it
 abbrev pub wide : Quote → List Broken
-wide t = breaks (nat_le t.bytes 32) six t.«from» t.to
+wide t = breaks (nat_le t.bytes 32) six t.span.«from» t.span.to
 
 -- a name has at most 24 bytes; due at the byte after it
 abbrev pub long : ℕ → ℕ → List Broken
@@ -65,7 +65,7 @@ arrives a b c = cond (nat_lt a b) (nat_le b c && (c - b) % (b - a) == 0) (cond (
 
 -- a sequence arrives; it is named by its first constant, and due at the byte after its last
 abbrev pub arrival : Constant → Constant → Constant → List Broken
-arrival a b c = breaks (arrives a.value b.value c.value) five a.«from» c.to
+arrival a b c = breaks (arrives a.value b.value c.value) five a.span.«from» c.span.to
 
 abbrev pub broken_number : Constant → List Broken
 broken_number c = large c ++ lengthy c

@@ -49,6 +49,27 @@ is_short op.Multiply = false
 is_short op.Divide = false
 is_short op.Remainder = false
 
+-- an operator of two bytes
+abbrev pub is_wide : Op → Bool
+is_wide op.Or = true
+is_wide op.And = true
+is_wide op.BitOr = false
+is_wide op.BitXor = false
+is_wide op.BitAnd = false
+is_wide op.Equal = true
+is_wide op.Unequal = true
+is_wide op.Less = false
+is_wide op.Greater = false
+is_wide op.LessEqual = true
+is_wide op.GreaterEqual = true
+is_wide op.ShiftLeft = true
+is_wide op.ShiftRight = true
+is_wide op.Add = false
+is_wide op.Subtract = false
+is_wide op.Multiply = false
+is_wide op.Divide = false
+is_wide op.Remainder = false
+
 -- the byte of a sign before an operand
 abbrev pub sign_byte : Sign → ℕ
 sign_byte sign.Plus = 43

@@ -1,9 +1,9 @@
 // Operators, and the signs that stand before an operand.
 ghost use Rattle.std.specs.Prelude.{◌≡◌};
-ghost use Rattle.tokens.specs.Operators.{level, is_short, doubled, alone};
+ghost use Rattle.tokens.specs.Operators.{level, is_short, is_wide, doubled, alone};
 
 // An operator between two operands.
-#[derive(Clone, Copy)]
+#[derive(Clone, Copy, PartialEq, Eq, Debug)]
 pub enum Op {
     Or,
     And,
@@ -26,7 +26,7 @@ pub enum Op {
 }
 
 // A sign before an operand.
-#[derive(Clone, Copy)]
+#[derive(Clone, Copy, PartialEq, Eq, Debug)]
 pub enum Sign {
     Plus,
     Minus,
@@ -35,7 +35,7 @@ pub enum Sign {
 }
 
 // The first byte of an operator that a second byte may make longer: `|`, `&`, `=`, `!`, `<`, `>`.
-#[derive(Clone, Copy)]
+#[derive(Clone, Copy, PartialEq, Eq, Debug)]
 pub enum Half {
     Bar,
     Ampersand,
@@ -45,57 +45,78 @@ pub enum Half {
     Greater,
 }
 
-// How tight an operator binds, from 1 (loosest) to 10.
-pub fn level_of(op: Op) -> u8
-    ensures { result ≡ level op }
-{
-    match op {
-        Op::Or => 1,
-        Op::And => 2,
-        Op::BitOr => 3,
-        Op::BitXor => 4,
-        Op::BitAnd => 5,
-        Op::Equal | Op::Unequal => 6,
-        Op::Less | Op::Greater | Op::LessEqual | Op::GreaterEqual => 7,
-        Op::ShiftLeft | Op::ShiftRight => 8,
-        Op::Add | Op::Subtract => 9,
-        Op::Multiply | Op::Divide | Op::Remainder => 10,
+impl Op {
+    // How tight an operator binds, from 1 (loosest) to 10.
+    pub fn level(self) -> u8
+        ensures { result ≡ level self }
+    {
+        match self {
+            Op::Or => 1,
+            Op::And => 2,
+            Op::BitOr => 3,
+            Op::BitXor => 4,
+            Op::BitAnd => 5,
+            Op::Equal | Op::Unequal => 6,
+            Op::Less | Op::Greater | Op::LessEqual | Op::GreaterEqual => 7,
+            Op::ShiftLeft | Op::ShiftRight => 8,
+            Op::Add | Op::Subtract => 9,
+            Op::Multiply | Op::Divide | Op::Remainder => 10,
+        }
+    }
+
+    // Whether the left side may decide, so that the right one is not worked out.
+    pub fn is_short(self) -> bool
+        ensures { result ≡ is_short self }
+    {
+        matches!(self, Op::Or | Op::And)
+    }
+
+    // Whether it has two bytes.
+    pub fn is_wide(self) -> bool
+        ensures { result ≡ is_wide self }
+    {
+        matches!(
+            self,
+            Op::Or
+                | Op::And
+                | Op::Equal
+                | Op::Unequal
+                | Op::LessEqual
+                | Op::GreaterEqual
+                | Op::ShiftLeft
+                | Op::ShiftRight
+        )
     }
 }
 
-// Whether the left side may decide, so that the right one is not worked out.
-pub fn is_short(op: Op) -> bool
-    ensures { result ≡ is_short op }
-{
-    matches!(op, Op::Or | Op::And)
-}
-
-// The operator of two bytes, if the second is `b`.
-pub fn doubled_by(half: Half, b: u8) -> Option<Op>
-    ensures { result ≡ doubled half b }
-{
-    match (half, b) {
-        (Half::Bar, b'|') => Some(Op::Or),
-        (Half::Ampersand, b'&') => Some(Op::And),
-        (Half::Equals, b'=') => Some(Op::Equal),
-        (Half::Bang, b'=') => Some(Op::Unequal),
-        (Half::Less, b'=') => Some(Op::LessEqual),
-        (Half::Less, b'<') => Some(Op::ShiftLeft),
-        (Half::Greater, b'=') => Some(Op::GreaterEqual),
-        (Half::Greater, b'>') => Some(Op::ShiftRight),
-        _ => None,
+impl Half {
+    // The operator of two bytes, if the second is `b`.
+    pub fn doubled(self, b: u8) -> Option<Op>
+        ensures { result ≡ doubled self b }
+    {
+        match (self, b) {
+            (Half::Bar, b'|') => Some(Op::Or),
+            (Half::Ampersand, b'&') => Some(Op::And),
+            (Half::Equals, b'=') => Some(Op::Equal),
+            (Half::Bang, b'=') => Some(Op::Unequal),
+            (Half::Less, b'=') => Some(Op::LessEqual),
+            (Half::Less, b'<') => Some(Op::ShiftLeft),
+            (Half::Greater, b'=') => Some(Op::GreaterEqual),
+            (Half::Greater, b'>') => Some(Op::ShiftRight),
+            _ => None,
+        }
     }
-}
 
-// The operator of the first byte alone.
-pub fn alone_by(half: Half) -> Option<Op>
-    ensures { result ≡ alone half }
-{
-    match half {
-        Half::Bar => Some(Op::BitOr),
-        Half::Ampersand => Some(Op::BitAnd),
-        Half::Less => Some(Op::Less),
-        Half::Greater => Some(Op::Greater),
-        Half::Equals | Half::Bang => None,
+    // The operator of the first byte alone.
+    pub fn alone(self) -> Option<Op>
+        ensures { result ≡ alone self }
+    {
+        match self {
+            Half::Bar => Some(Op::BitOr),
+            Half::Ampersand => Some(Op::BitAnd),
+            Half::Less => Some(Op::Less),
+            Half::Greater => Some(Op::Greater),
+            Half::Equals | Half::Bang => None,
+        }
     }
 }

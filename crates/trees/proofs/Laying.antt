@@ -7,7 +7,7 @@ use Rattle.tokens.specs.declared.operator.Op.{Op}
 use Rattle.tokens.specs.Operators.{is_short}
 use Rattle.trees.specs.declared.Node.{Node}
 use Rattle.trees.specs.declared.Node.TheVariants as node
-use Rattle.trees.specs.Tree.{Key, Expr, Args, Seq, Opening, Item, Items, Block, Statement, Arms, written, written_statement, written_arms, count_args}
+use Rattle.trees.specs.Tree.{Key, Expr, Args, Seq, Opening, Item, Items, Block, Statement, Arms, written, written_statement, written_arms, from_to, count_args}
 use Rattle.trees.specs.Flat.{rest, joint, closing, called, flatten, flatten_key, flatten_args, flatten_seq, flatten_target, assign_node, opening_expr, opening_node, framed, flatten_block, flatten_statement, flatten_arms}
 use Rattle.trees.specs.Counts.{nodes, nodes_key, nodes_args, nodes_seq, nodes_target, nodes_block, nodes_statement, nodes_arms, need, need_block, need_statement, need_arms}
 use Rattle.trees.specs.Laid.{weight, total, head_size, with_body, Mark, Laid, loops, closed, is_each, elif_node, laid_item, laid}
@@ -169,7 +169,7 @@ mutual
 
   total_key : (k : Key) → total (flatten_key k) ≡ nodes_key k
   total_key (Key.name i j) = refl
-  total_key (Key.index i j q e) = omega (arith, total-append (flatten e) (node.Index i j ∷ []), total_expr e)
+  total_key (Key.index i j q e) = omega (arith, total-append (flatten e) (node.Index (from_to i j) ∷ []), total_expr e)
 
   total_args : (s : Args) → total (flatten_args s) ≡ nodes_args s
   total_args Args.nullary = refl
@@ -178,7 +178,7 @@ mutual
   total_seq : (s : Seq) → total (flatten_seq s) ≡ nodes_seq s
   total_seq Seq.empty = refl
   total_seq (Seq.item s e) = omega (arith, total-append (flatten_seq s ++ flatten e) (joint s), total-append (flatten_seq s) (flatten e), total_joint s, total_seq s, total_expr e)
-  total_seq (Seq.steps s a b c) = omega (arith, total-append (flatten_seq s) (node.Sequence a.«from» a.value b.value c.value ∷ joint s), total_joint s, total_seq s)
+  total_seq (Seq.steps s a b c) = omega (arith, total-append (flatten_seq s) (node.Sequence a.span.«from» a.value b.value c.value ∷ joint s), total_joint s, total_seq s)
 
 total_target : (k : Key) → total (flatten_target k) ≡ nodes_target k
 total_target (Key.name i j) = refl
@@ -233,7 +233,7 @@ mutual
 
   fits_key : (k : Key) → length (flatten_key k) + 1 ≤ 2 * nodes_key k
   fits_key (Key.name i j) = omega arith
-  fits_key (Key.index i j q e) = omega (arith, length-append (flatten e) (node.Index i j ∷ []), fits_expr e)
+  fits_key (Key.index i j q e) = omega (arith, length-append (flatten e) (node.Index (from_to i j) ∷ []), fits_expr e)
 
   fits_args : (s : Args) → length (flatten_args s) ≤ 2 * nodes_args s
   fits_args Args.nullary = omega arith
@@ -242,7 +242,7 @@ mutual
   fits_seq : (s : Seq) → length (flatten_seq s) ≤ 2 * nodes_seq s
   fits_seq Seq.empty = omega arith
   fits_seq (Seq.item s e) = omega (arith, length-append (flatten_seq s ++ flatten e) (joint s), length-append (flatten_seq s) (flatten e), length_joint s, fits_seq s, fits_expr e)
-  fits_seq (Seq.steps s a b c) = omega (arith, length-append (flatten_seq s) (node.Sequence a.«from» a.value b.value c.value ∷ joint s), length_joint s, fits_seq s)
+  fits_seq (Seq.steps s a b c) = omega (arith, length-append (flatten_seq s) (node.Sequence a.span.«from» a.value b.value c.value ∷ joint s), length_joint s, fits_seq s)
 
 fits_target : (k : Key) → length (flatten_target k) ≤ 2 * nodes_target k
 fits_target (Key.name i j) = omega arith

@@ -6,7 +6,7 @@ use Rattle.tokens.specs.declared.operator.Op.{Op}
 use Rattle.tokens.specs.Operators.{is_short}
 use Rattle.trees.specs.declared.Node.{Node}
 use Rattle.trees.specs.declared.Node.TheVariants as node
-use Rattle.trees.specs.Tree.{Key, Expr, Args, Seq, Opening, Block, Statement, Arms, count_args}
+use Rattle.trees.specs.Tree.{Key, Expr, Args, Seq, Opening, Block, Statement, Arms, from_to, count_args}
 
 -- what stands after the left side of an operator: `&&` and `||` stand before their right side and can skip it, the others after it
 abbrev pub rest : ℕ → Op → List Node → List Node
@@ -31,8 +31,8 @@ called i None n = node.Call i function.Length n
 
 unfoldable mutual
   pub flatten : Expr → List Node
-  flatten (Expr.number c) = node.Number c.«from» c.to c.value ∷ []
-  flatten (Expr.text t) = node.Text t.«from» t.to ∷ []
+  flatten (Expr.number c) = node.Number c.span c.value ∷ []
+  flatten (Expr.text t) = node.Text t.span ∷ []
   flatten (Expr.key k) = flatten_key k
   flatten (Expr.call i j q f s z) = flatten_args s ++ called i f (count_args s) ∷ []
   flatten (Expr.list q s) = flatten_seq s ++ closing q s ∷ []
@@ -41,8 +41,8 @@ unfoldable mutual
   flatten (Expr.binary q o l r) = flatten l ++ rest q o (flatten r)
 
   pub flatten_key : Key → List Node
-  flatten_key (Key.name i j) = node.Name i j ∷ []
-  flatten_key (Key.index i j q e) = flatten e ++ node.Index i j ∷ []
+  flatten_key (Key.name i j) = node.Name (from_to i j) ∷ []
+  flatten_key (Key.index i j q e) = flatten e ++ node.Index (from_to i j) ∷ []
 
   pub flatten_args : Args → List Node
   flatten_args Args.nullary = []
@@ -51,7 +51,7 @@ unfoldable mutual
   pub flatten_seq : Seq → List Node
   flatten_seq Seq.empty = []
   flatten_seq (Seq.item s e) = flatten_seq s ++ flatten e ++ joint s
-  flatten_seq (Seq.steps s a b c) = flatten_seq s ++ node.Sequence a.«from» a.value b.value c.value ∷ joint s
+  flatten_seq (Seq.steps s a b c) = flatten_seq s ++ node.Sequence a.span.«from» a.value b.value c.value ∷ joint s
 
 -- the nodes of a target's subscript
 abbrev pub flatten_target : Key → List Node
@@ -59,8 +59,8 @@ flatten_target (Key.name i j) = []
 flatten_target (Key.index i j q e) = flatten e
 
 abbrev pub assign_node : ℕ → Key → ℕ → ℕ → Node
-assign_node q (Key.name i j) n m = node.Assign q i j n m
-assign_node q (Key.index i j p e) n m = node.Assign q i j n m
+assign_node q (Key.name i j) n m = node.Assign q (from_to i j) n m
+assign_node q (Key.index i j p e) n m = node.Assign q (from_to i j) n m
 
 -- the expression that an opening instruction works out, and its node, for a block of m nodes
 abbrev pub opening_expr : Opening → Expr
@@ -72,8 +72,8 @@ opening_expr (Opening.joineach x y e d) = e
 abbrev pub opening_node : ℕ → Opening → ℕ → Node
 opening_node q (Opening.if c) m = node.If q (length (flatten c)) m
 opening_node q (Opening.while c) m = node.While q (length (flatten c)) m
-opening_node q (Opening.foreach x y e) m = node.Foreach q x y (length (flatten e)) m
-opening_node q (Opening.joineach x y e d) m = node.Joineach q x y (length (flatten e)) d.«from» d.to m
+opening_node q (Opening.foreach x y e) m = node.Foreach q (from_to x y) (length (flatten e)) m
+opening_node q (Opening.joineach x y e d) m = node.Joineach q (from_to x y) (length (flatten e)) d.span m
 
 -- a block's instruction, its expression and the block
 abbrev pub framed : ℕ → Opening → List Node → List Node
@@ -85,7 +85,7 @@ unfoldable mutual
   flatten_block (Block.then s b) = flatten_statement s ++ flatten_block b
 
   pub flatten_statement : Statement → List Node
-  flatten_statement (Statement.piece i j) = node.Piece i j ∷ []
+  flatten_statement (Statement.piece i j) = node.Piece (from_to i j) ∷ []
   flatten_statement (Statement.dollar p) = node.Dollar p ∷ []
   flatten_statement (Statement.show q e) = node.Show q (length (flatten e)) ∷ flatten e
   flatten_statement (Statement.assign q k e) = assign_node q k (length (flatten_target k)) (length (flatten e)) ∷ flatten_target k ++ flatten e

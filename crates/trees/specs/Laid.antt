@@ -3,27 +3,27 @@
 use Rattle.std.specs.Prelude.{ℕ, suc, ◌+◌, ◌-◌, max, Bool, true, false, cond, List, [], ◌∷◌, ◌++◌, length, slice_set}
 use Rattle.trees.specs.declared.Node.{Node}
 use Rattle.trees.specs.declared.Node.TheVariants as node
-use Rattle.trees.specs.Tree.{Expr, Opening, Item, Items}
+use Rattle.trees.specs.Tree.{Expr, Opening, Item, Items, from_to}
 use Rattle.trees.specs.Flat.{flatten, flatten_target, assign_node, opening_expr, opening_node}
 use Rattle.trees.specs.Counts.{need, need_assign}
 
 -- silent nodes count none
 abbrev pub weight : Node → ℕ
-weight (node.Piece i j) = 1
+weight (node.Piece s) = 1
 weight (node.Dollar p) = 1
 weight (node.Show p n) = 1
-weight (node.Assign p i j n m) = 1
+weight (node.Assign p s n m) = 1
 weight (node.If p n m) = 1
 weight (node.Elif p n m) = 1
 weight (node.Else m) = 1
 weight node.End = 1
 weight (node.While p n m) = 1
-weight (node.Foreach p i j n m) = 1
-weight (node.Joineach p i j n o z m) = 1
-weight (node.Number i j v) = 1
-weight (node.Text i j) = 1
-weight (node.Name i j) = 1
-weight (node.Index i j) = 1
+weight (node.Foreach p s n m) = 1
+weight (node.Joineach p s n d m) = 1
+weight (node.Number s v) = 1
+weight (node.Text s) = 1
+weight (node.Name s) = 1
+weight (node.Index s) = 1
 weight (node.Call p f n) = 1
 weight (node.Empty p) = 1
 weight (node.List p) = 1
@@ -40,21 +40,21 @@ total (n ∷ ns) = weight n + total ns
 
 -- the nodes of the expression that an instruction of a block works out; 0 of any other node
 abbrev pub head_size : Node → ℕ
-head_size (node.Piece i j) = 0
+head_size (node.Piece s) = 0
 head_size (node.Dollar p) = 0
 head_size (node.Show p n) = 0
-head_size (node.Assign p i j n m) = 0
+head_size (node.Assign p s n m) = 0
 head_size (node.If p n m) = n
 head_size (node.Elif p n m) = n
 head_size (node.Else m) = 0
 head_size node.End = 0
 head_size (node.While p n m) = n
-head_size (node.Foreach p i j n m) = n
-head_size (node.Joineach p i j n o z m) = n
-head_size (node.Number i j v) = 0
-head_size (node.Text i j) = 0
-head_size (node.Name i j) = 0
-head_size (node.Index i j) = 0
+head_size (node.Foreach p s n m) = n
+head_size (node.Joineach p s n d m) = n
+head_size (node.Number s v) = 0
+head_size (node.Text s) = 0
+head_size (node.Name s) = 0
+head_size (node.Index s) = 0
 head_size (node.Call p f n) = 0
 head_size (node.Empty p) = 0
 head_size (node.List p) = 0
@@ -67,21 +67,21 @@ head_size (node.Judged p) = 0
 
 -- the node with a block of m nodes; any other node stays
 abbrev pub with_body : Node → ℕ → Node
-with_body (node.Piece i j) m = node.Piece i j
+with_body (node.Piece s) m = node.Piece s
 with_body (node.Dollar p) m = node.Dollar p
 with_body (node.Show p n) m = node.Show p n
-with_body (node.Assign p i j n k) m = node.Assign p i j n k
+with_body (node.Assign p s n k) m = node.Assign p s n k
 with_body (node.If p n k) m = node.If p n m
 with_body (node.Elif p n k) m = node.Elif p n m
 with_body (node.Else k) m = node.Else m
 with_body node.End m = node.End
 with_body (node.While p n k) m = node.While p n m
-with_body (node.Foreach p i j n k) m = node.Foreach p i j n m
-with_body (node.Joineach p i j n o z k) m = node.Joineach p i j n o z m
-with_body (node.Number i j v) m = node.Number i j v
-with_body (node.Text i j) m = node.Text i j
-with_body (node.Name i j) m = node.Name i j
-with_body (node.Index i j) m = node.Index i j
+with_body (node.Foreach p s n k) m = node.Foreach p s n m
+with_body (node.Joineach p s n d k) m = node.Joineach p s n d m
+with_body (node.Number s v) m = node.Number s v
+with_body (node.Text s) m = node.Text s
+with_body (node.Name s) m = node.Name s
+with_body (node.Index s) m = node.Index s
 with_body (node.Call p f n) m = node.Call p f n
 with_body (node.Empty p) m = node.Empty p
 with_body (node.List p) m = node.List p
@@ -132,7 +132,7 @@ abbrev pub elif_node : ℕ → Expr → ℕ → Node
 elif_node q c m = node.Elif q (length (flatten c)) m
 
 abbrev pub laid_item : Laid → Item → Laid
-laid_item l (Item.piece i j) = record { nodes = l.nodes ++ node.Piece i j ∷ []; marks = l.marks; need = l.need }
+laid_item l (Item.piece i j) = record { nodes = l.nodes ++ node.Piece (from_to i j) ∷ []; marks = l.marks; need = l.need }
 laid_item l (Item.dollar p) = record { nodes = l.nodes ++ node.Dollar p ∷ []; marks = l.marks; need = l.need }
 laid_item l (Item.show q e) = record { nodes = l.nodes ++ node.Show q (length (flatten e)) ∷ flatten e; marks = l.marks; need = max l.need (need e + loops l.marks) }
 laid_item l (Item.assign q k e) = record { nodes = l.nodes ++ assign_node q k (length (flatten_target k)) (length (flatten e)) ∷ flatten_target k ++ flatten e; marks = l.marks; need = max l.need (need_assign k e + loops l.marks) }

@@ -7,6 +7,11 @@ use Rattle.tokens.specs.declared.operator.Op.{Op}
 use Rattle.tokens.specs.declared.operator.Sign.{Sign}
 use Rattle.trees.specs.declared.Constant.{Constant}
 use Rattle.trees.specs.declared.Quote.{Quote}
+use Rattle.trees.specs.declared.Span.{Span}
+
+-- the part from i to j
+abbrev pub from_to : ℕ → ℕ → Span ℕ
+from_to i j = record { «from» = i; to = j }
 
 mutual
   -- a name from i to j, and with a subscript the place of its `[`

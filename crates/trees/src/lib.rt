@@ -1,36 +1,44 @@
 // What a template is read into: a tree in the specs, and its nodes in the order in which a print runs them.
 #![tactic(auto)]
 
+ghost use Rattle.std.specs.Prelude.{◌≡◌, min};
+ghost use Rattle.trees.specs.Tree.{from_to};
+ghost use Rattle.trees.specs.Laid.{weight, head_size, with_body};
+
 use functions::Function;
 use tokens::operator::{Op, Sign};
 
-// A number constant, from its first byte to the byte after its last.
-#[derive(Clone, Copy)]
+// Where a part of a template stands: its first byte, and the byte after its last.
+#[derive(Clone, Copy, PartialEq, Eq, Debug)]
+pub struct Span<T = usize> {
+    pub from: T,
+    pub to: T,
+}
+
+// A number constant.
+#[derive(Clone, Copy, PartialEq, Eq, Debug)]
 pub struct Constant {
-    pub from: usize,
-    pub to: usize,
+    pub span: Span,
     pub value: u64,
 }
 
 // A text constant with its quotes, and how many bytes it has after escapes.
-#[derive(Clone, Copy)]
+#[derive(Clone, Copy, PartialEq, Eq, Debug)]
 pub struct Quote {
-    pub from: usize,
-    pub to: usize,
+    pub span: Span,
     pub bytes: usize,
 }
 
-// A node. Places are byte offsets in the template: `place` names the node in a fault, `from` and `to` are the first byte of a
-// part of the template and the byte after its last. Sizes count the nodes of a part that follows.
+// A node. Places are byte offsets in the template: `place` names the node in a fault. A span is a part of the
+// template, sizes count the nodes of a part that follows.
 //
 // An expression's nodes stand in the order in which they work on a stack of values: what an operator, call, list or subscript
 // holds stands before it. `Joined` and `Judged` are silent: they count as no node.
-#[derive(Clone, Copy)]
+#[derive(Clone, Copy, PartialEq, Eq, Debug)]
 pub enum Node {
     // plain text
     Piece {
-        from: u16,
-        to: u16,
+        span: Span<u16>,
     },
     // `$$`
     Dollar {
@@ -44,8 +52,7 @@ pub enum Node {
     // `$key = expression$`: the subscript follows (0 nodes if there is none), then the right side
     Assign {
         place: u16,
-        from: u16,
-        to: u16,
+        name: Span<u16>,
         subscript: u16,
         right: u16,
     },
@@ -74,41 +81,34 @@ pub enum Node {
     // `$FOREACH name e$`: the expression follows, then the block, then `End`
     Foreach {
         place: u16,
-        from: u16,
-        to: u16,
+        name: Span<u16>,
         list: u16,
         body: u16,
     },
-    // `$JOINEACH name e "d"$`: as `Foreach`; the delimiter with its quotes stands from `open` to `close`
+    // `$JOINEACH name e "d"$`: as `Foreach`; the delimiter stands with its quotes
     Joineach {
         place: u16,
-        from: u16,
-        to: u16,
+        name: Span<u16>,
         list: u16,
-        open: u16,
-        close: u16,
+        delimiter: Span<u16>,
         body: u16,
     },
     // a number constant with its text as written
     Number {
-        from: u16,
-        to: u16,
+        span: Span<u16>,
         value: u64,
     },
     // a text constant with its quotes
     Text {
-        from: u16,
-        to: u16,
+        span: Span<u16>,
     },
     // a key without a subscript
     Name {
-        from: u16,
-        to: u16,
+        span: Span<u16>,
     },
     // a key whose subscript is the value on top
     Index {
-        from: u16,
-        to: u16,
+        span: Span<u16>,
     },
     // a call with so many values on top
     Call {
@@ -153,4 +153,68 @@ pub enum Node {
     Judged {
         place: u16,
     },
+}
+
+impl Span {
+    // The same in 16 bits, as nodes keep it. A place past 65,535, which no template has, becomes that one.
+    pub fn narrow(self) -> Span<u16>
+        ensures { result ≡ from_to (min self.«from» 65535) (min self.to 65535) }
+    {
+        Span {
+            from: self.from.min(65535) as u16,
+            to: self.to.min(65535) as u16,
+        }
+    }
+}
+
+impl Node {
+    // Whether it counts: 1, or 0 for a silent one.
+    pub fn weight(self) -> usize
+        ensures { result ≡ weight self }
+    {
+        match self {
+            Node::Joined | Node::Judged { .. } => 0,
+            _ => 1,
+        }
+    }
+
+    // How many nodes stand between an instruction's node and its block.
+    pub fn head_size(self) -> u16
+        ensures { result ≡ head_size self }
+    {
+        match self {
+            Node::If {
+                condition: size,
+                ..
+            }
+            | Node::Elif {
+                condition: size,
+                ..
+            }
+            | Node::While {
+                condition: size,
+                ..
+            }
+            | Node::Foreach { list: size, .. }
+            | Node::Joineach { list: size, .. } => size,
+            _ => 0,
+        }
+    }
+
+    // An instruction's node with the size of its block.
+    // An arm each: of one arm for all six, the proof doesn't learn what it leaves in `self`.
+    pub fn with_body(mut self, size: u16) -> Node
+        ensures { result ≡ with_body self size }
+    {
+        match &mut self {
+            Node::If { body, .. } => *body = size,
+            Node::Elif { body, .. } => *body = size,
+            Node::Else { body } => *body = size,
+            Node::While { body, .. } => *body = size,
+            Node::Foreach { body, .. } => *body = size,
+            Node::Joineach { body, .. } => *body = size,
+            _ => {}
+        }
+        self
+    }
 }
