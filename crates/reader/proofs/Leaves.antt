@@ -1,7 +1,8 @@
 -- Number constants and text constants. Assumes nothing.
-use Rattle.std.proofs.Common.{◌≡◌, ℕ, ◌+◌, ◌-◌, ◌*◌, ◌<◌, ◌≤◌, Bool, true, false, cond, ◌&&◌, ◌||◌, eqb, ltb, ◌⊎◌, List, [], length, get_or, IsErrAnd, Some, None, Ok, Err, Option, Result, sym, refl, ap, ◌∙◌, subst, inl, inr, ⊎_elim, arith}
+use Rattle.std.proofs.Common.{◌≡◌, ℕ, ◌+◌, ◌-◌, ◌*◌, ◌<◌, ◌≤◌, Bool, true, false, cond, ◌||◌, eqb, ltb, ◌⊎◌, List, [], length, get_or, Bor, IsErrAnd, SomeIff, is_some, Some, None, Ok, Err, Option, Result, sym, refl, ap, ◌∙◌, subst, inl, inr, ⊎_elim, arith}
+use Rattle.std.proofs.lemmas.Option.{slice_get-get_or, slice_get_past}
 use Rattle.std.proofs.lemmas.Result.{err_from_is_err_and}
-use Rattle.std.proofs.lemmas.Bool.{cond-true, cond-false, lt-ltb, le-ltb, ltb-true, eq-eqb, ne_eqb, cases_lt}
+use Rattle.std.proofs.lemmas.Bool.{cond-true, cond-false, lt-ltb, le-ltb, eq-eqb, ne_eqb, cases_lt}
 use Rattle.std.proofs.lemmas.Bool.Decides.{nat_tests}
 use Rattle.refusals.specs.declared.Refusal.{Refusal}
 use Rattle.refusals.specs.declared.Refusal.TheVariants.{UnexpectedByte}
@@ -10,42 +11,38 @@ use Rattle.tokens.specs.declared.byte.Class.{Class}
 use Rattle.tokens.specs.declared.byte.Class.TheVariants as is
 use Rattle.tokens.specs.Bytes.{start, class, digit_value}
 use Rattle.trees.specs.declared.Quote.{Quote}
+use Rattle.trees.specs.Tree.{from_to}
 use Rattle.grammar.specs.Machine.{nought, prefix, digits, Config, in_number, in_text, escape, quoted, Numbered, Quoted as Goal, Move, stop, go, step, onward, refused, first_digit, numbereds, constant_at, texts, escapes}
 use Rattle.grammar.proofs.Moves.{at_end, moves, alike}
 use Rattle.reader.specs.declared.cursor.Cursor.{Cursor}
 use Rattle.reader.specs.declared.cursor.State.{State}
 use Rattle.reader.specs.declared.cursor.State.TheVariants.{Line, Plain, Comment, Instruction, Text, DollarAtLine, Dollar, Escape}
 use Rattle.reader.specs.declared.fault.Fault.{Fault}
-use Rattle.reader.specs.States.{moved, fault, at_pos, Taken}
-use Rattle.reader.specs.Scans.{start_at, digit_at, prefixed_at, capped, Digited, Numbers, Quotes, Quoted}
+use Rattle.reader.specs.States.{moved, Inner, fault, MovedTo, Taken}
+use Rattle.reader.specs.Scans.{start_of, start_at, digit_of, digit_at, prefixed_at, capped, Skipped, Ran, Digited, Numbers, Quotes, Quoted}
 
 pub as_refused : (f : Fault) (n : Refusal) (p : ℕ) → f ≡ fault n p → refused n p ≡ refused f.refusal f.place
 as_refused f n p e = ap (λ (x : Fault). refused x.refusal x.place) (sym e)
 
 -- what stands at a place
 pub digit_here : (text : List ℕ) (p : ℕ) → p < length text → digit_at text p ≡ digit_value (get_or text p 0)
-digit_here text p lt = cond-true _ _ _ (lt-ltb p (length text) lt)
+digit_here text p lt = ap digit_of (slice_get-get_or text p 0 lt)
 
 digit_past : (text : List ℕ) (p : ℕ) → length text ≤ p → digit_at text p ≡ 16
-digit_past text p ge = cond-false _ _ _ (le-ltb p (length text) ge)
+digit_past text p ge = ap digit_of (slice_get_past text p ge)
 
 pub digit_inside : (text : List ℕ) (p : ℕ) → digit_at text p < 16 → p < length text
 digit_inside text p h = ⊎_elim (λ lt. lt) (λ ge. absurd (omega (arith, digit_past text p ge))) (cases_lt p (length text))
 
-start_inside : (text : List ℕ) (p : ℕ) → (start_at text p ≡ at.Other → ⊥) → p < length text
-start_inside text p other = ⊎_elim (λ lt. lt) (λ ge. absurd (other (cond-false _ _ _ (le-ltb p (length text) ge)))) (cases_lt p (length text))
-
-and_true : (a b : Bool) → (a && b) ≡ true → (a ≡ true) × (b ≡ true)
-and_true true true e = (refl, refl)
-and_true true false e = absurd (let z : ◌≡◌ {A = ℕ} 0 1 = cc in omega arith)
-and_true false b e = absurd (let z : ◌≡◌ {A = ℕ} 0 1 = cc in omega arith)
+pub start_inside : (text : List ℕ) (p : ℕ) → (start_at text p ≡ at.Other → ⊥) → p < length text
+start_inside text p other = ⊎_elim (λ lt. lt) (λ ge. absurd (other (ap start_of (slice_get_past text p ge)))) (cases_lt p (length text))
 
 -- the `x` of a hexadecimal constant
 prefixed_here : (text : List ℕ) (p : ℕ) → prefixed_at text p ≡ true → (p < length text) × ((eqb (get_or text p 0) 120 || eqb (get_or text p 0) 88) ≡ true)
-prefixed_here text p e = let h = and_true _ _ e in (ltb-true p (length text) h.0, h.1)
+prefixed_here text p e = grind (arith, nat_tests)
 
 prefixed_not : (text : List ℕ) (p : ℕ) → p < length text → prefixed_at text p ≡ false → (eqb (get_or text p 0) 120 || eqb (get_or text p 0) 88) ≡ false
-prefixed_not text p lt e = sym (ap (λ t. t && (eqb (get_or text p 0) 120 || eqb (get_or text p 0) 88)) (lt-ltb p (length text) lt)) ∙ e
+prefixed_not text p lt e = grind (arith, nat_tests)
 
 -- a number constant, digit by digit
 module _ (m : Bool) (text : List ℕ) where
@@ -90,50 +87,77 @@ module _ (m : Bool) (text : List ℕ) where
       (λ ge. at_end m text (in_number i prefix g) (p + 1) ge)
       (cases_lt (p + 1) (length text))
 
+-- a test that answers as a function does
+pub ran : (test : ℕ → Bool) (answers : ℕ → Bool → Type 0) (r r' : Cursor) → ((b : ℕ) (o : Bool) → answers b o → o ≡ test b) → Skipped answers r r' → Ran test r r'
+ran test answers r r' told s =
+    record {
+      same = s.same;
+      all = record { onwards = s.onwards; inside = omega (arith, r'.within, ap (λ (t : Bor (List ℕ)). length t.now) s.same.text); all = λ q a b. sym (told _ _ (s.all q a b)) };
+      last = λ lt. sym (told _ _ (s.last lt));
+    }
+
 -- inside the digits of a number constant
-pub record Digiting (text : List ℕ) (n first : ℕ) (r : Cursor) (o : Option ℕ) (r' : Cursor) : Type 0 where
+pub record Digiting (n first : ℕ) (r : Cursor) (o : Option ℕ) (r' : Cursor) : Type 0 where
   pub value : ℕ
   pub told : o ≡ capped value
-  pub same : r' ≡ at_pos r r'.pos
+  pub same : MovedTo r r'.pos r'
   pub onwards : r.pos ≤ r'.pos
-  pub inside : r'.pos ≤ length text
-  pub runs : (i : ℕ) (g : Numbered) → onward true text (in_number i (digits n first) g) r.pos ≡ onward true text (in_number i (digits n value) g) r'.pos
+  pub runs : (i : ℕ) (g : Numbered) → onward true r.text.now (in_number i (digits n first) g) r.pos ≡ onward true r.text.now (in_number i (digits n value) g) r'.pos
+
+-- whether a digit of the base n stands here, by its value d
+pub no_digit : (o : Option ℕ) (d n : ℕ) → SomeIff o (d < n) d → is_some o ≡ false → n ≤ d
+no_digit (Some x) d n h e = absurd (cc)
+no_digit None d n h e = omega (arith, h)
+
+pub a_digit : (o : Option ℕ) (d n : ℕ) → SomeIff o (d < n) d → is_some o ≡ true → d < n
+a_digit (Some x) d n h e = h.0
+a_digit None d n h e = absurd (cc)
+
+-- what stands at the place that a cursor has come to
+pub at_place : {A : Type 0} (f : List ℕ → ℕ → A) {r r' : Cursor} {p : ℕ} → MovedTo r p r' → f r'.text.now r'.pos ≡ f r.text.now p
+at_place f {r} {r'} m = ap (λ (t : Bor (List ℕ)). f t.now r'.pos) m.text ∙ ap (f r.text.now) m.pos
+
+pub moved_more : {r r₁ r₂ : Cursor} {p : ℕ} → MovedTo r p r₁ → MovedTo r₁ (r₁.pos + 1) r₂ → MovedTo r (p + 1) r₂
+moved_more a b = record { text = b.text ∙ a.text; state = b.state ∙ a.state; pos = b.pos ∙ ap (λ q. q + 1) a.pos; table = b.table ∙ a.table }
+
+moved_on : {r r₁ r₂ : Cursor} {p q : ℕ} → MovedTo r p r₁ → MovedTo r₁ q r₂ → MovedTo r r₂.pos r₂
+moved_on a b = record { text = b.text ∙ a.text; state = b.state ∙ a.state; pos = refl; table = b.table ∙ a.table }
 
 -- one digit more
-pub digiting_more : (text : List ℕ) (n first d : ℕ) (r r₁ r₂ : Cursor) (o o' : Option ℕ) → (h : Digiting text n first r o r₁) → r₂ ≡ at_pos r₁ (r₁.pos + 1) → d ≡ digit_at text r₁.pos → d < n → n ≤ 16 → o' ≡ capped (n * h.value + d) → Digiting text n first r o' r₂
-digiting_more text n first d r r₁ r₂ o o' h passed is small base told =
+pub digiting_more : (n first d : ℕ) (r r₁ r₂ : Cursor) (o o' : Option ℕ) → (h : Digiting n first r o r₁) → MovedTo r₁ (r₁.pos + 1) r₂ → d ≡ digit_at r₁.text.now r₁.pos → d < n → n ≤ 16 → o' ≡ capped (n * h.value + d) → Digiting n first r o' r₂
+digiting_more n first d r r₁ r₂ o o' h passed here small base told =
+    let text : List ℕ = r.text.now in
+    let is : d ≡ digit_at text r₁.pos = here ∙ ap (λ (t : Bor (List ℕ)). digit_at t.now r₁.pos) h.same.text in
     let lt : r₁.pos < length text = digit_inside text r₁.pos (omega arith) in
-    let place : r₂.pos ≡ r₁.pos + 1 = ap (λ (r : Cursor). r.pos) passed in
     let digit : digit_value (get_or text r₁.pos 0) ≡ d = sym (is ∙ digit_here text r₁.pos lt) in
     record {
       value = n * h.value + d;
       told = told;
-      same = passed ∙ ap (λ q. at_pos q (r₁.pos + 1)) h.same ∙ ap (at_pos r) (sym place);
-      onwards = omega (arith, h.onwards);
-      inside = omega arith;
-      runs = λ i g. h.runs i g ∙ digits_more true text i n h.value g r₁.pos lt (omega arith) ∙ λ j. onward true text (in_number i (digits n (n * h.value + digit j)) g) (sym place j);
+      same = moved_on h.same passed;
+      onwards = omega (arith, h.onwards, passed.pos);
+      runs = λ i g. h.runs i g ∙ digits_more true text i n h.value g r₁.pos lt (omega arith) ∙ λ j. onward true text (in_number i (digits n (n * h.value + digit j)) g) (sym passed.pos j);
     }
 
 -- the digits from p on, behind the first one or behind `0x`, make a number constant
-pub numeral_read : (text : List ℕ) (n first p : ℕ) (r r₁ r' r'' : Cursor) (o o'' : Option ℕ) → r₁ ≡ at_pos r p → r.pos < p → ((g : Numbered) → onward true text (in_number r.pos (first_digit (get_or text r.pos 0)) g) (r.pos + 1) ≡ onward true text (in_number r.pos (digits n first) g) p) → Digited text n first r₁ o r' → r'' ≡ r' → o'' ≡ o → Numbers text r (record { «from» = r.pos; to = r''.pos; value = o'' }) r''
-numeral_read text n first p r r₁ r' r'' o o'' same far begins d e e' =
-    let place : r₁.pos ≡ p = ap (λ (r : Cursor). r.pos) same in
-    let read : Numbers text r (record { «from» = r.pos; to = r'.pos; value = o }) r' = record {
+pub numeral_read : (n first p : ℕ) (r r₁ r' r'' : Cursor) (o o'' : Option ℕ) → MovedTo r p r₁ → r.pos < p → ((g : Numbered) → onward true r.text.now (in_number r.pos (first_digit (get_or r.text.now r.pos 0)) g) (r.pos + 1) ≡ onward true r.text.now (in_number r.pos (digits n first) g) p) → Digited n first r₁ o r' → r'' ≡ r' → o'' ≡ o → Numbers r (record { span = from_to r.pos r''.pos; value = o'' }) r''
+numeral_read n first p r r₁ r' r'' o o'' same far begins d e e' =
+    let text : List ℕ = r.text.now in
+    let there : r₁.text.now ≡ text = ap (λ (t : Bor (List ℕ)). t.now) same.text in
+    let read : Numbers r (record { span = from_to r.pos r'.pos; value = o }) r' = record {
       read = digits n d.value;
-      complete = d.last;
-      told = ap (λ (v : Option ℕ). record { «from» = r.pos; to = r'.pos; value = v }) d.told;
-      same = d.same ∙ ap (λ q. at_pos q r'.pos) same;
-      onwards = omega (arith, d.onwards);
-      inside = d.inside;
-      runs = λ g. begins g ∙ ap (onward true text (in_number r.pos (digits n first) g)) (sym place) ∙ d.runs r.pos g;
+      complete = ap (λ t. ltb (digit_at t r'.pos) n) (sym there) ∙ d.last;
+      told = ap (λ (v : Option ℕ). record { span = from_to r.pos r'.pos; value = v }) d.told;
+      same = moved_on same d.same;
+      onwards = omega (arith, d.onwards, same.pos);
+      runs = λ g. begins g ∙ ap (onward true text (in_number r.pos (digits n first) g)) (sym same.pos) ∙ subst (λ t. onward true t (in_number r.pos (digits n first) g) r₁.pos ≡ onward true t (in_number r.pos (digits n d.value) g) r'.pos) there (d.runs r.pos g);
     } in
-    subst (λ (q : Cursor). Numbers text r (record { «from» = r.pos; to = q.pos; value = o'' }) q) (sym e) (subst (λ (v : Option ℕ). Numbers text r (record { «from» = r.pos; to = r'.pos; value = v }) r') (sym e') read)
+    subst (λ (q : Cursor). Numbers r (record { span = from_to r.pos q.pos; value = o'' }) q) (sym e) (subst (λ (v : Option ℕ). Numbers r (record { span = from_to r.pos r'.pos; value = v }) r') (sym e') read)
 
 -- the configuration in which the machine of eight states has the state s, inside a text constant from i on and right after it
 abbrev pub quoting : State → ℕ → ℕ → ℕ → Goal → Config
 quoting Text i n p g = in_text i n g
 quoting Escape i n p g = escape i n g
-quoting Instruction i n p g = quoted (record { «from» = i; to = p; bytes = n }) g
+quoting Instruction i n p g = quoted (record { span = from_to i p; bytes = n }) g
 quoting Line i n p g = in_text i n g
 quoting Plain i n p g = in_text i n g
 quoting Comment i n p g = in_text i n g
@@ -192,13 +216,39 @@ module _ (m : Bool) (text : List ℕ) where
   quote_end s (inl e) i n p g ge = ap (λ s. onward m text (quoting s i n p g) p) e ∙ at_end m text _ p ge
   quote_end s (inr e) i n p g ge = ap (λ s. onward m text (quoting s i n p g) p) e ∙ at_end m text _ p ge
 
--- inside a text constant that began at i, with n bytes
-pub record Quoting (text : List ℕ) (i : ℕ) (r₀ r : Cursor) (n : ℕ) : Type 0 where
+-- inside a text constant that began at i, with n bytes; r₀ is the cursor behind its first quote
+pub record Quoting (i : ℕ) (r₀ r : Cursor) (n : ℕ) : Type 0 where
   pub within : Within r.state
-  pub runs : (g : Goal) → onward true text (in_text i 0 g) (i + 1) ≡ onward true text (quoting r.state i n r.pos g) r.pos
+  pub runs : (g : Goal) → onward true r₀.text.now (in_text i 0 g) (i + 1) ≡ onward true r₀.text.now (quoting r.state i n r.pos g) r.pos
   pub far : i + n < r.pos
-  pub inside : r.pos ≤ length text
+  pub text : r.text ≡ r₀.text
   pub table : r.table ≡ r₀.table
+
+start_digit : (b : ℕ) → start b ≡ at.Digit → 48 ≤ b
+start_digit b e = grind (arith, nat_tests)
+
+-- a number constant's first digit
+pub digit_first : (text : List ℕ) (p : ℕ) → start_at text p ≡ at.Digit → (p < length text) × (48 ≤ get_or text p 0)
+digit_first text p e =
+    let lt : p < length text = start_inside text p (λ other. cc) in
+    (lt, start_digit (get_or text p 0) (sym (ap start_of (slice_get-get_or text p 0 lt)) ∙ e))
+
+-- digits stand inside an instruction
+pub digit_inner : (b : ℕ) → digit_value b < 16 → Inner b
+digit_inner b h = grind (arith, nat_tests)
+
+start_inner : (b : ℕ) → start b ≡ at.Digit → Inner b
+start_inner b e = grind (arith, nat_tests)
+
+pub digit_passes : (text : List ℕ) (p : ℕ) → digit_at text p < 16 → (p < length text) × Inner (get_or text p 0)
+digit_passes text p h =
+    let lt = digit_inside text p h in
+    (lt, digit_inner (get_or text p 0) (omega (arith, digit_here text p lt)))
+
+pub start_passes : (text : List ℕ) (p : ℕ) → start_at text p ≡ at.Digit → (p < length text) × Inner (get_or text p 0)
+start_passes text p e =
+    let lt : p < length text = start_inside text p (λ other. cc) in
+    (lt, start_inner (get_or text p 0) (sym (ap start_of (slice_get-get_or text p 0 lt)) ∙ e))
 
 start_quote : (b : ℕ) → start b ≡ at.Quote → class b ≡ is.Quote
 start_quote b e = grind (arith, nat_tests)
@@ -206,100 +256,86 @@ start_quote b e = grind (arith, nat_tests)
 -- a text constant's first quote
 quote_here : (text : List ℕ) (p : ℕ) → start_at text p ≡ at.Quote → (p < length text) × (class (get_or text p 0) ≡ is.Quote)
 quote_here text p e =
-    let lt : p < length text = start_inside text p (λ other. let z : ◌≡◌ {A = ℕ} 0 1 = cc in omega arith) in
-    (lt, start_quote (get_or text p 0) (sym (cond-true _ _ _ (lt-ltb p (length text) lt)) ∙ e))
+    let lt : p < length text = start_inside text p (λ other. cc) in
+    (lt, start_quote (get_or text p 0) (sym (ap start_of (slice_get-get_or text p 0 lt)) ∙ e))
 
 some_path : (s s' : State) → Some s ≡ Some s' → s ≡ s'
 some_path s s' e = cc
 
 -- how a text constant begins, goes on and ends
-pub quoting_first : (text : List ℕ) (r₀ r : Cursor) → r₀.state ≡ Instruction → start_at text r₀.pos ≡ at.Quote → Taken text r₀ (Ok tt) r → Quoting text r₀.pos r r 0
-quoting_first text r₀ r inward begins took =
-    let is : class (get_or text r₀.pos 0) ≡ is.Quote = (quote_here text r₀.pos begins).1 in
-    let state : Text ≡ r.state = some_path _ _ (sym (ap (λ s. moved s (class (get_or text r₀.pos 0))) inward ∙ ap (moved Instruction) is) ∙ took.1) in
-    let place : r.pos ≡ r₀.pos + 1 = ap (λ (r : Cursor). r.pos) took.2 in
+pub quoting_first : (r₀ r : Cursor) → r₀.state ≡ Instruction → start_at r₀.text.now r₀.pos ≡ at.Quote → Taken r₀ (Ok tt) r → Quoting r₀.pos r r 0
+quoting_first r₀ r inward begins took =
+    let is : class (get_or r₀.text.now r₀.pos 0) ≡ is.Quote = (quote_here r₀.text.now r₀.pos begins).1 in
+    let state : Text ≡ r.state = some_path _ _ (sym (ap (λ s. moved s (class (get_or r₀.text.now r₀.pos 0))) inward ∙ ap (moved Instruction) is) ∙ took.1) in
     record {
       within = inl (sym state);
-      runs = λ g j. onward true text (quoting (state j) r₀.pos 0 r.pos g) (sym place j);
-      far = omega arith;
-      inside = omega (arith, took.0);
+      runs = λ g j. onward true r.text.now (quoting (state j) r₀.pos 0 r.pos g) (sym took.2.pos j);
+      far = omega (arith, took.2.pos);
+      text = refl;
       table = refl;
     }
 
 -- the first quote is always taken
-pub quoting_begins : (text : List ℕ) (r₀ : Cursor) (f : Fault) (r : Cursor) → r₀.state ≡ Instruction → start_at text r₀.pos ≡ at.Quote → Taken text r₀ (Err f) r → ⊥
-quoting_begins text r₀ f r inward begins took =
-    let h = quote_here text r₀.pos begins in
+pub quoting_begins : (r₀ : Cursor) (f : Fault) (r : Cursor) → r₀.state ≡ Instruction → start_at r₀.text.now r₀.pos ≡ at.Quote → Taken r₀ (Err f) r → ⊥
+quoting_begins r₀ f r inward begins took =
+    let h = quote_here r₀.text.now r₀.pos begins in
     none (ap (λ s. moved s is.Quote) inward) (ap (moved r₀.state) h.1) (took.1 h.0)
   where
     none : {o o' : Option State} → o ≡ Some Text → o' ≡ o → o' ≡ None → ⊥
-    none a b c = let z : ◌≡◌ {A = ℕ} 0 1 = cc in omega arith
+    none a b c = cc
+
+-- what the machine takes or refuses, read in another reference to the same text
+taken_in : (r r' : Cursor) (t : Bor (List ℕ)) → r.text ≡ t → Taken r (Ok tt) r' → (r.pos < length t.now) × (moved r.state (class (get_or t.now r.pos 0)) ≡ Some r'.state)
+taken_in r r' t e took = subst (λ (t : Bor (List ℕ)). (r.pos < length t.now) × (moved r.state (class (get_or t.now r.pos 0)) ≡ Some r'.state)) e (took.0, took.1)
+
+refused_in : (r r' : Cursor) (f : Fault) (t : Bor (List ℕ)) → r.text ≡ t → Taken r (Err f) r' → r.pos < length t.now → moved r.state (class (get_or t.now r.pos 0)) ≡ None
+refused_in r r' f t e took = subst (λ (t : Bor (List ℕ)). r.pos < length t.now → moved r.state (class (get_or t.now r.pos 0)) ≡ None) e took.1
 
 -- one byte more: the runs, in the state after it
-quoting_on : (text : List ℕ) (i n : ℕ) (r₀ r r' : Cursor) → Quoting text i r₀ r n → Taken text r (Ok tt) r' → (g : Goal) → onward true text (in_text i 0 g) (i + 1) ≡ onward true text (quoting r'.state i (bump r'.state n) r'.pos g) r'.pos
-quoting_on text i n r₀ r r' q took g =
-    let place : r'.pos ≡ r.pos + 1 = ap (λ (r : Cursor). r.pos) took.2 in
-    q.runs g ∙ quote_on true text r.state r'.state q.within i n r.pos g took.0 took.1 ∙ ap (λ p. onward true text (quoting r'.state i (bump r'.state n) p g) p) (sym place)
+quoting_on : (i n : ℕ) (r₀ r r' : Cursor) → Quoting i r₀ r n → Taken r (Ok tt) r' → (g : Goal) → onward true r₀.text.now (in_text i 0 g) (i + 1) ≡ onward true r₀.text.now (quoting r'.state i (bump r'.state n) r'.pos g) r'.pos
+quoting_on i n r₀ r r' q took g =
+    let h = taken_in r r' r₀.text q.text took in
+    q.runs g ∙ quote_on true r₀.text.now r.state r'.state q.within i n r.pos g h.0 h.1 ∙ ap (λ p. onward true r₀.text.now (quoting r'.state i (bump r'.state n) p g) p) (sym took.2.pos)
 
-pub quoting_more : (text : List ℕ) (i n : ℕ) (r₀ r r' : Cursor) → Quoting text i r₀ r n → Taken text r (Ok tt) r' → Within r'.state → (n' : ℕ) → n' ≡ bump r'.state n → n' ≤ n + 1 → Quoting text i r₀ r' n'
-quoting_more text i n r₀ r r' q took s n' e le =
-    let place : r'.pos ≡ r.pos + 1 = ap (λ (r : Cursor). r.pos) took.2 in
+pub quoting_more : (i n : ℕ) (r₀ r r' : Cursor) → Quoting i r₀ r n → Taken r (Ok tt) r' → Within r'.state → (n' : ℕ) → n' ≡ bump r'.state n → n' ≤ n + 1 → Quoting i r₀ r' n'
+quoting_more i n r₀ r r' q took s n' e le =
     record {
       within = s;
-      runs = λ g. quoting_on text i n r₀ r r' q took g ∙ ap (λ n. onward true text (quoting r'.state i n r'.pos g) r'.pos) (sym e);
-      far = omega (arith, q.far);
-      inside = omega (arith, took.0);
-      table = ap (λ (r : Cursor). r.table) took.2 ∙ q.table;
+      runs = λ g. quoting_on i n r₀ r r' q took g ∙ ap (λ n. onward true r₀.text.now (quoting r'.state i n r'.pos g) r'.pos) (sym e);
+      far = omega (arith, q.far, took.2.pos);
+      text = took.2.text ∙ q.text;
+      table = took.2.table ∙ q.table;
     }
 
-pub quoting_stop : (text : List ℕ) (i n : ℕ) (r₀ r : Cursor) (f : Fault) (r' : Cursor) → Quoting text i r₀ r n → Taken text r (Err f) r' → (g : Goal) → onward true text (in_text i 0 g) (i + 1) ≡ refused f.refusal f.place
-quoting_stop text i n r₀ r f r' q took g =
-    q.runs g
-    ∙ ⊎_elim (λ lt. quote_stop true text r.state q.within i n r.pos g lt (took.1 lt)) (λ ge. quote_end true text r.state q.within i n r.pos g ge) (cases_lt r.pos (length text))
-    ∙ as_refused f UnexpectedByte r.pos took.0
+-- r₁ is where the constant begins, r₀ behind its first quote
+pub quoting_stop : (n : ℕ) (r₁ r₀ r : Cursor) (f : Fault) (r' : Cursor) → r₀.text ≡ r₁.text → Quoting r₁.pos r₀ r n → Taken r (Err f) r' → (g : Goal) → onward true r₁.text.now (in_text r₁.pos 0 g) (r₁.pos + 1) ≡ refused f.refusal f.place
+quoting_stop n r₁ r₀ r f r' same q took g =
+    subst (λ (t : Bor (List ℕ)). onward true t.now (in_text r₁.pos 0 g) (r₁.pos + 1) ≡ refused f.refusal f.place) same
+    (q.runs g
+    ∙ ⊎_elim (λ lt. quote_stop true r₀.text.now r.state q.within r₁.pos n r.pos g lt (refused_in r r' f r₀.text q.text took lt)) (λ ge. quote_end true r₀.text.now r.state q.within r₁.pos n r.pos g ge) (cases_lt r.pos (length r₀.text.now))
+    ∙ as_refused f UnexpectedByte r.pos took.0)
 
--- after the last quote; r₀ is where the constant begins, r₁ behind its first quote
-pub quoting_last : (text : List ℕ) (n : ℕ) (r₀ r₁ r r' : Cursor) → r₁.table ≡ r₀.table → Quoting text r₀.pos r₁ r n → Taken text r (Ok tt) r' → (r'.state ≡ Text → ⊥) → (r'.state ≡ Escape → ⊥) → Quotes text r₀ (record { «from» = r₀.pos; to = r'.pos; bytes = n }) r'
-quoting_last text n r₀ r₁ r r' table q took no_text no-escape =
-    let s : r'.state ≡ Instruction = last r.state r'.state (class (get_or text r.pos 0)) q.within took.1 no_text no-escape in
-    let place : r'.pos ≡ r.pos + 1 = ap (λ (r : Cursor). r.pos) took.2 in
+-- after the last quote; r₁ is where the constant begins, r₀ behind its first quote
+pub quoting_last : (n : ℕ) (r₁ r₀ r r' : Cursor) → r₀.text ≡ r₁.text → r₀.table ≡ r₁.table → Quoting r₁.pos r₀ r n → Taken r (Ok tt) r' → (r'.state ≡ Text → ⊥) → (r'.state ≡ Escape → ⊥) → Quotes r₁ (record { span = from_to r₁.pos r'.pos; bytes = n }) r'
+quoting_last n r₁ r₀ r r' same table q took no_text no_escape =
+    let s : r'.state ≡ Instruction = last r.state r'.state (class (get_or r.text.now r.pos 0)) q.within took.1 no_text no_escape in
     record {
       opens = refl;
       closes = refl;
       inward = s;
-      table = ap (λ (r : Cursor). r.table) took.2 ∙ q.table ∙ table;
-      onwards = omega (arith, q.far);
-      few = omega (arith, q.far);
-      inside = omega (arith, took.0);
-      runs = λ g. quoting_on text r₀.pos n r₁ r r' q took g ∙ ap (λ s. onward true text (quoting s r₀.pos (bump s n) r'.pos g) r'.pos) s;
+      text = took.2.text ∙ q.text ∙ same;
+      table = took.2.table ∙ q.table ∙ table;
+      onwards = omega (arith, q.far, took.2.pos);
+      few = omega (arith, q.far, took.2.pos);
+      runs = λ g. subst (λ (t : Bor (List ℕ)). onward true t.now (in_text r₁.pos 0 g) (r₁.pos + 1) ≡ onward true t.now (quoted (record { span = from_to r₁.pos r'.pos; bytes = n }) g) r'.pos) same (quoting_on r₁.pos n r₀ r r' q took g ∙ ap (λ s. onward true r₀.text.now (quoting s r₁.pos (bump s n) r'.pos g) r'.pos) s);
     }
   where
-    of_text : (s' : State) (cl : Class) → moved Text cl ≡ Some s' → (s' ≡ Text → ⊥) → (s' ≡ Escape → ⊥) → s' ≡ Instruction
-    of_text s' is.Newline e a b = cc
-    of_text s' is.Return e a b = absurd (a (cc))
-    of_text s' is.Blank e a b = absurd (a (cc))
-    of_text s' is.Dollar e a b = absurd (a (cc))
-    of_text s' is.Quote e a b = cc
-    of_text s' is.Backslash e a b = absurd (b (cc))
-    of_text s' is.Escaped e a b = absurd (a (cc))
-    of_text s' is.Other e a b = absurd (a (cc))
-
-    of_escape : (s' : State) (cl : Class) → moved Escape cl ≡ Some s' → (s' ≡ Text → ⊥) → (s' ≡ Escape → ⊥) → s' ≡ Instruction
-    of_escape s' is.Newline e a b = cc
-    of_escape s' is.Return e a b = cc
-    of_escape s' is.Blank e a b = cc
-    of_escape s' is.Dollar e a b = cc
-    of_escape s' is.Quote e a b = absurd (a (cc))
-    of_escape s' is.Backslash e a b = absurd (a (cc))
-    of_escape s' is.Escaped e a b = absurd (a (cc))
-    of_escape s' is.Other e a b = cc
-
     last : (s s' : State) (cl : Class) → Within s → moved s cl ≡ Some s' → (s' ≡ Text → ⊥) → (s' ≡ Escape → ⊥) → s' ≡ Instruction
-    last s s' cl (inl is) e a b = of_text s' cl (sym (ap (λ s. moved s cl) is) ∙ e) a b
-    last s s' cl (inr is) e a b = of_escape s' cl (sym (ap (λ s. moved s cl) is) ∙ e) a b
+    last s s' cl (inl is) e a b = grind arith
+    last s s' cl (inr is) e a b = grind arith
 
 -- what comes out of a `?`
-pub quoted_break : (text : List ℕ) (r r' : Cursor) (o : Result Quote Fault) (f : Fault) → IsErrAnd o (λ y. y ≡ f) → ((g : Goal) → onward true text (in_text r.pos 0 g) (r.pos + 1) ≡ refused f.refusal f.place) → Quoted text r o r'
-quoted_break text r r' o f e h =
+pub quoted_break : (r r' : Cursor) (o : Result Quote Fault) (f : Fault) → IsErrAnd o (λ y. y ≡ f) → ((g : Goal) → onward true r.text.now (in_text r.pos 0 g) (r.pos + 1) ≡ refused f.refusal f.place) → Quoted r o r'
+quoted_break r r' o f e h =
     let p = err_from_is_err_and o e in
-    subst (λ o. Quoted text r o r') (sym p.1) (λ g. h g ∙ ap (λ (f : Fault). refused f.refusal f.place) (sym p.2))
+    subst (λ o. Quoted r o r') (sym p.1) (λ g. h g ∙ ap (λ (f : Fault). refused f.refusal f.place) (sym p.2))

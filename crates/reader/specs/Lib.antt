@@ -3,3 +3,4 @@ pub mod States
 pub mod Scans
 pub mod Kinds
 pub mod Answers
+pub mod Reports

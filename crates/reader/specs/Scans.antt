@@ -1,9 +1,9 @@
 -- What the cursor's functions say of the bytes they pass. Assumes nothing.
-use Rattle.std.specs.Prelude.{◌≡◌, ℕ, ◌+◌, ◌<◌, ◌≤◌, Bool, true, false, cond, ◌&&◌, ◌||◌, ltb, List, length, Some, None, Ok, Err, Option, Result, ◌==◌, nat_le, nat_lt, slice_index}
+use Rattle.std.specs.Prelude.{◌≡◌, ℕ, ◌+◌, ◌<◌, ◌≤◌, Bool, true, false, cond, ◌&&◌, ◌||◌, List, length, Some, None, Ok, Err, Option, Result, ◌==◌, nat_le, nat_lt, slice_get, slice_index}
 use Rattle.refusals.specs.declared.Refusal.{Refusal}
 use Rattle.refusals.specs.declared.Refusal.TheVariants.{UnexpectedByte}
 use Rattle.tokens.specs.declared.operator.Op.{Op}
-use Rattle.tokens.specs.declared.operator.Op.TheVariants as op
+use Rattle.tokens.specs.declared.operator.Half.{Half}
 use Rattle.tokens.specs.declared.operator.Half.TheVariants as halved
 use Rattle.tokens.specs.declared.byte.Start.{Start}
 use Rattle.tokens.specs.declared.byte.Start.TheVariants as at
@@ -14,10 +14,11 @@ use Rattle.tokens.specs.declared.byte.Separator.TheVariants.{Comma, Semicolon}
 use Rattle.tokens.specs.declared.byte.Shape.{Shape}
 use Rattle.tokens.specs.declared.byte.Shape.TheVariants.{Round, Square, Curly}
 use Rattle.tokens.specs.Bytes.{start, after, blank, word, digit_value}
-use Rattle.tokens.specs.Operators.{level, doubled, alone}
+use Rattle.tokens.specs.Operators.{level, is_wide, doubled, alone}
 use Rattle.trees.specs.declared.Quote.{Quote}
+use Rattle.trees.specs.Tree.{from_to}
 use Rattle.grammar.specs.Machine.{Digits, nought, prefix, digits, in_number, in_text, quoted, Numbered, Quoted as Goal, onward, refused, first_digit}
-use Rattle.grammar.specs.Grammar.{Blanks, Every}
+use Rattle.grammar.specs.Grammar.{Every}
 use Rattle.reader.specs.declared.cursor.Cursor.{Cursor}
 use Rattle.reader.specs.declared.cursor.Inside.{Inside}
 use Rattle.reader.specs.declared.cursor.Inside.TheVariants as inside
@@ -26,7 +27,7 @@ use Rattle.reader.specs.declared.cursor.Follow.TheVariants as follow
 use Rattle.reader.specs.declared.cursor.Numeral.{Numeral}
 use Rattle.reader.specs.declared.cursor.State.TheVariants.{Instruction}
 use Rattle.reader.specs.declared.fault.Fault.{Fault}
-use Rattle.reader.specs.States.{fault, at_pos}
+use Rattle.reader.specs.States.{fault, MovedTo}
 
 -- which closing signs, separators and ends belong to what stands open
 abbrev pub ends : Shape → Inside → Bool
@@ -139,41 +140,62 @@ follows follow.Begin b = begins (start b)
 follows follow.Complete b = blank b || b == 36
 follows follow.Loop b = blank b
 
-abbrev pub Peeked : List ℕ → Cursor → Result ℕ Fault → Type 0
-Peeked text r (Ok b) = (r.pos < length text) × (b ≡ slice_index text r.pos)
-Peeked text r (Err f) = (length text ≤ r.pos) × (f ≡ fault UnexpectedByte r.pos)
+-- Bytes are passed, as many as there are, for which a test answers true; `answers` is what it may answer to a byte.
+pub record Skipped (answers : ℕ → Bool → Type 0) (r r' : Cursor) : Type 0 where
+  pub same : MovedTo r r'.pos r'
+  pub onwards : r.pos ≤ r'.pos
+  pub all : (q : ℕ) → r.pos ≤ q → q < r'.pos → answers (slice_index r.text.now q) true
+  pub last : r'.pos < length r.text.now → answers (slice_index r.text.now r'.pos) false
 
--- blanks are passed, as many as there are
-pub record Spaced (text : List ℕ) (r r' : Cursor) : Type 0 where
-  pub same : r' ≡ at_pos r r'.pos
-  pub blanks : Blanks text r.pos r'.pos
-  pub last : r'.pos < length text → blank (slice_index text r'.pos) ≡ false
+-- bytes that pass a test are passed, as many as there are
+pub record Ran (test : ℕ → Bool) (r r' : Cursor) : Type 0 where
+  pub same : MovedTo r r'.pos r'
+  pub all : Every test r.text.now r.pos r'.pos
+  pub last : r'.pos < length r.text.now → test (slice_index r.text.now r'.pos) ≡ false
 
--- bytes of a word are passed, as many as there are
-pub record Worded (text : List ℕ) (r r' : Cursor) : Type 0 where
-  pub same : r' ≡ at_pos r r'.pos
-  pub words : Every word text r.pos r'.pos
-  pub last : r'.pos < length text → word (slice_index text r'.pos) ≡ false
+-- blanks, or the bytes of a word
+abbrev pub Spaced : Cursor → Cursor → Type 0
+Spaced = Ran blank
+
+abbrev pub Worded : Cursor → Cursor → Type 0
+Worded = Ran word
+
+-- what a byte is, if there is one
+abbrev pub start_of : Option ℕ → Start
+start_of (Some b) = start b
+start_of None = at.Other
+
+abbrev pub after_of : Option ℕ → After
+after_of (Some b) = after b
+after_of None = past.Other
+
+abbrev pub digit_of : Option ℕ → ℕ
+digit_of (Some b) = digit_value b
+digit_of None = 16
 
 -- what stands at p, if anything
 abbrev pub start_at : List ℕ → ℕ → Start
-start_at text p = cond (nat_lt p (length text)) (start (slice_index text p)) at.Other
+start_at text p = start_of (slice_get text p)
 
 abbrev pub after_at : List ℕ → ℕ → After
-after_at text p = cond (nat_lt p (length text)) (after (slice_index text p)) past.Other
+after_at text p = after_of (slice_get text p)
 
 abbrev pub digit_at : List ℕ → ℕ → ℕ
-digit_at text p = cond (nat_lt p (length text)) (digit_value (slice_index text p)) 16
+digit_at text p = digit_of (slice_get text p)
 
--- the operator of a byte after an operand and of the next one
+-- the operator of a byte after an operand and of the next one, if there is one
+abbrev pub doubled_of : Half → Option ℕ → Option Op
+doubled_of h (Some b) = doubled h b
+doubled_of h None = None
+
 abbrev pub or_else : Option Op → Option Op → Option Op
 or_else (Some o) x = Some o
 or_else None x = x
 
-abbrev pub token_of : After → ℕ → Option Op
+abbrev pub token_of : After → Option ℕ → Option Op
 token_of past.Blank b = None
 token_of (past.Single o) b = Some o
-token_of (past.Double h) b = or_else (doubled h b) (alone h)
+token_of (past.Double h) b = or_else (doubled_of h b) (alone h)
 token_of (past.Separator s) b = None
 token_of past.Round b = None
 token_of past.Square b = None
@@ -183,7 +205,7 @@ token_of past.Quote b = None
 token_of past.Other b = None
 
 abbrev pub token_at : List ℕ → ℕ → Option Op
-token_at text p = token_of (after_at text p) (slice_index text (p + 1))
+token_at text p = token_of (after_at text p) (slice_get text (p + 1))
 
 -- an operator of level n or tighter
 abbrev pub tight : ℕ → Option Op → Option Op
@@ -194,33 +216,13 @@ abbrev pub tight_at : List ℕ → ℕ → ℕ → Option Op
 tight_at text n p = tight n (token_at text p)
 
 -- the bytes of an operator
-abbrev pub is_wide : Op → Bool
-is_wide op.Or = true
-is_wide op.And = true
-is_wide op.BitOr = false
-is_wide op.BitXor = false
-is_wide op.BitAnd = false
-is_wide op.Equal = true
-is_wide op.Unequal = true
-is_wide op.Less = false
-is_wide op.Greater = false
-is_wide op.LessEqual = true
-is_wide op.GreaterEqual = true
-is_wide op.ShiftLeft = true
-is_wide op.ShiftRight = true
-is_wide op.Add = false
-is_wide op.Subtract = false
-is_wide op.Multiply = false
-is_wide op.Divide = false
-is_wide op.Remainder = false
-
 abbrev pub width_of : Op → ℕ
 width_of o = cond (is_wide o) 2 1
 
 -- the fault n at the place q where the next byte may stand, else 3
-pub record Limited (text : List ℕ) (f : Follow) (r : Cursor) (n : Refusal) (q : ℕ) (o : Fault) : Type 0 where
-  pub here : r.pos < length text → o ≡ cond (follows f (slice_index text r.pos)) (fault n q) (fault UnexpectedByte r.pos)
-  pub past : length text ≤ r.pos → o ≡ fault UnexpectedByte r.pos
+pub record Limited (f : Follow) (r : Cursor) (n : Refusal) (q : ℕ) (o : Fault) : Type 0 where
+  pub here : r.pos < length r.text.now → o ≡ cond (follows f (slice_index r.text.now r.pos)) (fault n q) (fault UnexpectedByte r.pos)
+  pub past : length r.text.now ≤ r.pos → o ≡ fault UnexpectedByte r.pos
 
 -- `=` and `!` after an operand may be the first byte of an operator, so the byte after them cannot stand
 abbrev pub halfway : After → Bool
@@ -252,14 +254,13 @@ abbrev pub capped : ℕ → Option ℕ
 capped v = cond (nat_le v 9223372036854775807) (Some v) None
 
 -- digits in the base n after the value first: as many as there are, and the value with them
-pub record Digited (text : List ℕ) (n first : ℕ) (r : Cursor) (o : Option ℕ) (r' : Cursor) : Type 0 where
+pub record Digited (n first : ℕ) (r : Cursor) (o : Option ℕ) (r' : Cursor) : Type 0 where
   pub value : ℕ
   pub told : o ≡ capped value
-  pub same : r' ≡ at_pos r r'.pos
+  pub same : MovedTo r r'.pos r'
   pub onwards : r.pos ≤ r'.pos
-  pub inside : r'.pos ≤ length text
-  pub runs : (i : ℕ) (g : Numbered) → onward true text (in_number i (digits n first) g) r.pos ≡ onward true text (in_number i (digits n value) g) r'.pos
-  pub last : ltb (digit_at text r'.pos) n ≡ false
+  pub runs : (i : ℕ) (g : Numbered) → onward true r.text.now (in_number i (digits n first) g) r.pos ≡ onward true r.text.now (in_number i (digits n value) g) r'.pos
+  pub last : nat_lt (digit_at r.text.now r'.pos) n ≡ false
 
 -- the digits so far are complete at p: no further byte belongs to them
 abbrev pub value_of : Digits → ℕ
@@ -273,38 +274,35 @@ Complete text prefix p = ⊥
 Complete text (digits n v) p = nat_lt (digit_at text p) n ≡ false
 
 -- a number constant is read
-pub record Numbers (text : List ℕ) (r : Cursor) (n : Numeral) (r' : Cursor) : Type 0 where
+pub record Numbers (r : Cursor) (n : Numeral) (r' : Cursor) : Type 0 where
   pub read : Digits
-  pub complete : Complete text read r'.pos
-  pub told : n ≡ record { «from» = r.pos; to = r'.pos; value = capped (value_of read) }
-  pub same : r' ≡ at_pos r r'.pos
+  pub complete : Complete r.text.now read r'.pos
+  pub told : n ≡ record { span = from_to r.pos r'.pos; value = capped (value_of read) }
+  pub same : MovedTo r r'.pos r'
   pub onwards : r.pos < r'.pos
-  pub inside : r'.pos ≤ length text
-  pub runs : (g : Numbered) → onward true text (in_number r.pos (first_digit (slice_index text r.pos)) g) (r.pos + 1) ≡ onward true text (in_number r.pos read g) r'.pos
+  pub runs : (g : Numbered) → onward true r.text.now (in_number r.pos (first_digit (slice_index r.text.now r.pos)) g) (r.pos + 1) ≡ onward true r.text.now (in_number r.pos read g) r'.pos
 
-abbrev pub Numeraled : List ℕ → Cursor → Result Numeral Fault → Cursor → Type 0
-Numeraled text r (Ok n) r' = Numbers text r n r'
-Numeraled text r (Err f) r' = (g : Numbered) → onward true text (in_number r.pos (first_digit (slice_index text r.pos)) g) (r.pos + 1) ≡ refused f.refusal f.place
+abbrev pub Numeraled : Cursor → Result Numeral Fault → Cursor → Type 0
+Numeraled r (Ok n) r' = Numbers r n r'
+Numeraled r (Err f) r' = (g : Numbered) → onward true r.text.now (in_number r.pos (first_digit (slice_index r.text.now r.pos)) g) (r.pos + 1) ≡ refused f.refusal f.place
 
 -- a text constant is read
-pub record Quotes (text : List ℕ) (r : Cursor) (t : Quote) (r' : Cursor) : Type 0 where
-  pub opens : t.«from» ≡ r.pos
-  pub closes : t.to ≡ r'.pos
+pub record Quotes (r : Cursor) (t : Quote) (r' : Cursor) : Type 0 where
+  pub opens : t.span.«from» ≡ r.pos
+  pub closes : t.span.to ≡ r'.pos
   pub inward : r'.state ≡ Instruction
+  pub text : r'.text ≡ r.text
   pub table : r'.table ≡ r.table
   pub onwards : r.pos + 1 < r'.pos
   pub few : t.bytes + r.pos ≤ r'.pos
-  pub inside : r'.pos ≤ length text
-  pub runs : (g : Goal) → onward true text (in_text r.pos 0 g) (r.pos + 1) ≡ onward true text (quoted t g) r'.pos
+  pub runs : (g : Goal) → onward true r.text.now (in_text r.pos 0 g) (r.pos + 1) ≡ onward true r.text.now (quoted t g) r'.pos
 
-abbrev pub Quoted : List ℕ → Cursor → Result Quote Fault → Cursor → Type 0
-Quoted text r (Ok t) r' = Quotes text r t r'
-Quoted text r (Err f) r' = (g : Goal) → onward true text (in_text r.pos 0 g) (r.pos + 1) ≡ refused f.refusal f.place
+abbrev pub Quoted : Cursor → Result Quote Fault → Cursor → Type 0
+Quoted r (Ok t) r' = Quotes r t r'
+Quoted r (Err f) r' = (g : Goal) → onward true r.text.now (in_text r.pos 0 g) (r.pos + 1) ≡ refused f.refusal f.place
 
 -- an instruction goes on at the cursor, and has no more nodes than bytes behind it
-pub record Ready (text : List ℕ) (r : Cursor) : Type 0 where
+pub record Ready (r : Cursor) : Type 0 where
   pub inward : r.state ≡ Instruction
-  pub inside : r.pos ≤ length text
   pub few : r.table.len ≤ r.pos
   pub fewer : r.table.nodes ≤ r.table.len
-  pub short : length text ≤ 4096

@@ -3,7 +3,12 @@ use Rattle.std.specs.Prelude.{◌≡◌, ℕ, ◌+◌, cond, List, ◌++◌, len
 use Rattle.trees.specs.declared.Node.{Node}
 use Rattle.trees.specs.declared.Node.TheVariants.{End}
 use Rattle.trees.specs.Laid.{weight, total}
-use Rattle.reader.specs.declared.table.Table.{Table}
+
+-- the nodes that are kept, how many there are, and how many of these count
+pub record Table : Type 0 where
+  pub slots : List Node
+  pub len : ℕ
+  pub nodes : ℕ
 
 abbrev pub blank : Table
 blank = record { slots = replicate 2048 End; len = 0; nodes = 0 }

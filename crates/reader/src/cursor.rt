@@ -1,26 +1,16 @@
 // Goes through a template byte by byte: the machine of eight states, and the tokens of instructions.
-ghost use Rattle.std.specs.Prelude.{◌≡◌, ℕ, ◌+◌, ◌-◌, ◌*◌, ◌^◌, ◌<◌, ◌≤◌, length, Some, slice_index};
-ghost use Rattle.tokens.specs.Bytes.{start, class};
-ghost use Rattle.reader.specs.States.{moved, fault, Stepped, Taken, at_pos};
-ghost use Rattle.refusals.specs.declared.Refusal.TheVariants.{UnexpectedByte};
-ghost use Rattle.reader.specs.declared.cursor.State.TheVariants.{Instruction};
-ghost use Rattle.reader.specs.Scans.{operand_end, name_end, last_end, begins, is_wide, token_of, halfway, unexpected_at, Peeked, Spaced, Worded, start_at, after_at, digit_at, token_at, tight_at, width_of, follows, Limited, capped, prefixed_at, Ready, Digited, Numeraled, Quoted};
+ghost use Rattle.std.specs.Prelude.{◌≡◌, ◌+◌, ◌^◌, ◌<◌, ◌≤◌, true, length, slice_get, slice_index, SomeIff};
 
 use crate::fault::Fault;
+use crate::number::appended;
 use crate::table::Table;
 use refusals::Refusal;
-use tokens::byte::{
-    After, Class, Separator, Shape, Start, after_of, class_of, digit_value, is_blank, is_word,
-    start_of,
-};
-use tokens::operator::{Half, Op, alone_by, doubled_by, level_of};
-use trees::Quote;
-
-// The largest number constant, 2^63 - 1.
-const MOST: u64 = 9223372036854775807;
+use tokens::byte::{After, Class, Separator, Shape, Start, digit_value, is_blank, is_word};
+use tokens::operator::{Half, Op};
+use trees::{Node, Quote, Span};
 
 // Where the reader is.
-#[derive(Clone, Copy)]
+#[derive(Clone, Copy, PartialEq, Eq, Debug)]
 pub enum State {
     // at a line's start
     Line,
@@ -39,7 +29,7 @@ pub enum State {
 }
 
 // What the innermost open bracket is, or at the top what ends the expression: `$`, or the quote of a delimiter.
-#[derive(Clone, Copy)]
+#[derive(Clone, Copy, PartialEq, Eq, Debug)]
 pub enum Inside {
     Top,
     Join,
@@ -50,7 +40,7 @@ pub enum Inside {
 }
 
 // What has just been read, and so what may come next.
-#[derive(Clone, Copy)]
+#[derive(Clone, Copy, PartialEq, Eq, Debug)]
 pub enum Follow {
     // an operand
     Operand(Inside),
@@ -67,134 +57,117 @@ pub enum Follow {
 }
 
 // A number constant, with no value where that is too large.
-#[derive(Clone, Copy)]
+#[derive(Clone, Copy, PartialEq, Eq, Debug)]
 pub struct Numeral {
-    pub from: usize,
-    pub to: usize,
+    pub span: Span,
     pub value: Option<u64>,
 }
 
-// The place in the template, the state there, and the nodes read so far.
+// A template, the place in it, the state there, and the nodes read so far.
 #[derive(Drop)]
-pub struct Cursor {
+pub struct Cursor<'a> {
+    pub(crate) text: &'a [u8],
     pub(crate) state: State,
     pub(crate) pos: usize,
     pub(crate) table: Table,
+    pub ghost within: { pos ≤ length text.now },
+    pub ghost short: { length text.now ≤ 4096 },
 }
 
-// Whether the byte may stand after an operand.
-fn ends_operand(inside: Inside, after: After) -> bool
-    ensures { result ≡ operand_end inside after }
-{
-    match (inside, after) {
-        (_, After::Blank | After::Single(_) | After::Double(_)) => true,
-        (Inside::Top, After::Dollar) | (Inside::Join, After::Quote) => true,
-        (Inside::Round | Inside::Call, After::End(Shape::Round)) => true,
-        (Inside::Square, After::End(Shape::Square)) => true,
-        (Inside::Curly, After::End(Shape::Curly) | After::Separator(_)) => true,
-        (Inside::Call, After::Separator(Separator::Comma)) => true,
-        _ => false,
+impl Inside {
+    ghost use Rattle.reader.specs.Scans.{operand_end, name_end};
+
+    // Whether the byte may stand after an operand.
+    fn ends_operand(self, after: After) -> bool
+        ensures { result ≡ operand_end self after }
+    {
+        matches!(
+            (self, after),
+            (_, After::Blank | After::Single(_) | After::Double(_))
+                | (Inside::Top, After::Dollar)
+                | (Inside::Join, After::Quote)
+                | (Inside::Round | Inside::Call, After::End(Shape::Round))
+                | (Inside::Square, After::End(Shape::Square))
+                | (
+                    Inside::Curly,
+                    After::End(Shape::Curly) | After::Separator(_)
+                )
+                | (Inside::Call, After::Separator(Separator::Comma))
+        )
+    }
+
+    // Whether it may stand after a name.
+    fn ends_name(self, after: After) -> bool
+        ensures { result ≡ name_end self after }
+    {
+        matches!(after, After::Round | After::Square) || self.ends_operand(after)
     }
 }
 
-fn ends_name(inside: Inside, after: After) -> bool
-    ensures { result ≡ name_end inside after }
-{
-    match after {
-        After::Round | After::Square => true,
-        other => ends_operand(inside, other),
+impl Follow {
+    ghost use Rattle.reader.specs.Scans.{follows};
+
+    // Whether the byte may come next.
+    fn allows(self, b: u8) -> bool
+        ensures { result ≡ follows self b }
+    {
+        match self {
+            Follow::Operand(inside) => inside.ends_operand(After::from(b)),
+            Follow::Name(inside) => inside.ends_name(After::from(b)),
+            Follow::Last => matches!(
+                After::from(b),
+                After::Blank | After::Separator(Separator::Semicolon) | After::End(Shape::Curly)
+            ),
+            Follow::Begin => !matches!(
+                Start::from(b),
+                Start::EndRound | Start::EndCurly | Start::Dot | Start::Other
+            ),
+            Follow::Complete => is_blank(b) || b == b'$',
+            Follow::Loop => is_blank(b),
+        }
     }
 }
 
-fn ends_last(after: After) -> bool
-    ensures { result ≡ last_end after }
-{
-    match after {
-        After::Blank | After::Separator(Separator::Semicolon) | After::End(Shape::Curly) => true,
-        _ => false,
-    }
-}
+impl<'a> Cursor<'a> {
+    ghost use Rattle.reader.specs.Tables.{blank, pushed, patched};
+    ghost use Rattle.trees.specs.Tree.{from_to};
+    ghost use Rattle.refusals.specs.declared.Refusal.TheVariants.{UnexpectedByte};
+    ghost use Rattle.reader.specs.declared.cursor.State.TheVariants.{Line, Instruction};
+    ghost use Rattle.reader.specs.States.{fault, Stepped, Taken, MovedTo, Tabled, Inner};
+    ghost use Rattle.reader.specs.Scans.{unexpected_at, Spaced, Worded, start_at, after_at, digit_at, token_at, tight_at, Limited, prefixed_at, Ready, Digited, Numeraled, Quoted, Skipped};
 
-fn begins_operand(start: Start) -> bool
-    ensures { result ≡ begins start }
-{
-    match start {
-        Start::EndRound | Start::EndCurly | Start::Dot | Start::Other => false,
-        _ => true,
+    // At the beginning of a template.
+    pub(crate) fn new(text: &'a [u8]) -> Cursor<'a>
+        requires { length text.now ≤ 4096 }
+        ensures text { result.text.now ≡ text.now }
+        ensures state { result.state ≡ Line }
+        ensures pos { result.pos ≡ 0 }
+        ensures table { result.table ≡ blank }
+    {
+        Cursor {
+            text,
+            state: State::Line,
+            pos: 0,
+            table: Table::new(),
+        }
     }
-}
 
-fn may_follow(follow: Follow, b: u8) -> bool
-    ensures { result ≡ follows follow b }
-{
-    match follow {
-        Follow::Operand(inside) => ends_operand(inside, after_of(b)),
-        Follow::Name(inside) => ends_name(inside, after_of(b)),
-        Follow::Last => ends_last(after_of(b)),
-        Follow::Begin => begins_operand(start_of(b)),
-        Follow::Complete => is_blank(b) || b == b'$',
-        Follow::Loop => is_blank(b),
+    // One node more.
+    pub(crate) fn push(&mut self, node: Node)
+        requires { self.old.table.len + 1 < 2 ^ 64 }
+        ensures { Tabled self.old (pushed self.old.table node) self.new }
+    {
+        self.table.push(node);
     }
-}
 
-// Whether an operator has two bytes.
-pub(crate) fn is_wide(op: Op) -> bool
-    ensures { result ≡ is_wide op }
-{
-    match op {
-        Op::Or
-        | Op::And
-        | Op::Equal
-        | Op::Unequal
-        | Op::LessEqual
-        | Op::GreaterEqual
-        | Op::ShiftLeft
-        | Op::ShiftRight => true,
-        _ => false,
+    // Another node in the place of one.
+    pub(crate) fn patch(&mut self, at: usize, node: Node)
+        ensures { Tabled self.old (patched self.old.table at node) self.new }
+    {
+        self.table.patch(at, node);
     }
-}
 
-// The operator of a byte after an operand and the next byte.
-fn token_of(after: After, next: u8) -> Option<Op>
-    ensures { result ≡ token_of after next }
-{
-    match after {
-        After::Single(op) => Some(op),
-        After::Double(half) => match doubled_by(half, next) {
-            Some(op) => Some(op),
-            None => alone_by(half),
-        },
-        _ => None,
-    }
-}
-
-fn is_halfway(after: After) -> bool
-    ensures { result ≡ halfway after }
-{
-    match after {
-        After::Double(Half::Equals | Half::Bang) => true,
-        _ => false,
-    }
-}
-
-// The number with one digit more, unless it is past the limit.
-fn appended(value: Option<u64>, base: u8, digit: u8) -> Option<u64>
-    requires { (digit < base) × (base ≤ 16) }
-    ensures { (v : ℕ) → value ≡ capped v → result ≡ capped (base * v + digit) }
-{
-    let Some(value) = value else {
-        return None;
-    };
-    let next = base as u128 * value as u128 + digit as u128;
-    if next <= MOST as u128 {
-        Some(next as u64)
-    } else {
-        None
-    }
-}
-
-impl Cursor {
-    // The machine: takes one byte.
+    // The machine: matches on its state and the byte's class together, and changes the state in place.
     pub(crate) fn step(&mut self, class: Class) -> Result<(), Fault>
         ensures { Stepped self.old class result self.new }
     {
@@ -235,215 +208,197 @@ impl Cursor {
         }
     }
 
-    fn peek(&self, text: &[u8]) -> Result<u8, Fault>
-        ensures { Peeked text.now self.now result }
+    // The byte here, if the text goes on.
+    fn peek(&self) -> Option<u8>
+        ensures { result ≡ slice_get self.now.text.now self.now.pos }
     {
-        if self.pos < text.len() {
-            Ok(text[self.pos])
-        } else {
-            Err(self.refuse())
-        }
+        self.text.get(self.pos).copied()
+    }
+
+    // The byte behind that.
+    pub(crate) fn second(&self) -> Option<u8>
+        ensures { result ≡ slice_get self.now.text.now (self.now.pos + 1) }
+    {
+        self.text.get(self.pos + 1).copied()
+    }
+
+    pub(crate) fn start(&self) -> Start
+        ensures { result ≡ start_at self.now.text.now self.now.pos }
+    {
+        self.peek().map_or(Start::Other, Start::from)
+    }
+
+    pub(crate) fn after(&self) -> After
+        ensures { result ≡ after_at self.now.text.now self.now.pos }
+    {
+        self.peek().map_or(After::Other, After::from)
+    }
+
+    // The digit of the base that stands here.
+    fn digit(&self, base: u8) -> Option<u8>
+        requires { base ≤ 16 }
+        ensures { let value = digit_at self.now.text.now self.now.pos in SomeIff result (value < base) value }
+    {
+        self.peek()
+            .and_then(digit_value)
+            .filter(|digit| *digit < base)
     }
 
     // Passes a byte by way of the machine.
-    pub(crate) fn take(&mut self, text: &[u8]) -> Result<(), Fault>
-        ensures { Taken text.now self.old result self.new }
+    pub(crate) fn take(&mut self) -> Result<(), Fault>
+        ensures { Taken self.old result self.new }
     {
-        let b = self.peek(text)?;
-        self.step(class_of(b))?;
+        let b = self.peek().ok_or(self.refuse())?;
+        self.step(Class::from(b))?;
         self.pos += 1;
         Ok(())
     }
 
     // Passes a byte inside an instruction that stays there.
-    pub(crate) fn pass(&mut self, text: &[u8])
-        requires { (self.old.pos < length text.now) × ((self.old.state ≡ Instruction) × (moved Instruction (class (slice_index text.now self.old.pos)) ≡ Some Instruction)) }
-        ensures { self.new ≡ at_pos self.old (self.old.pos + 1) }
+    pub(crate) fn pass(&mut self)
+        requires { (self.old.pos < length self.old.text.now) × ((self.old.state ≡ Instruction) × Inner (slice_index self.old.text.now self.old.pos)) }
+        ensures { MovedTo self.old (self.old.pos + 1) self.new }
     {
-        match self.take(text) {
-            Ok(()) => {}
-            Err(_) => unreachable(),
+        self.take().unwrap();
+    }
+
+    // Passes the bytes, as many as there are, of which the test holds.
+    // A loop, here and below, and no search of the slice: each byte goes through the machine.
+    fn skip<F: Fn(u8) -> bool>(&mut self, test: F)
+        requires callable { F.IsAlwaysCallable test }
+        requires inward { self.old.state ≡ Instruction }
+        requires inner { (b : _) → b < 2 ^ 8 → F.post test b true → Inner b }
+        ensures { Skipped (F.post test) self.old self.new }
+    {
+        while let Some(b) = self.peek()
+            && test(b)
+        {
+            self.pass();
         }
     }
 
     // Passes blanks.
-    pub(crate) fn blanks(&mut self, text: &[u8])
-        requires { (self.old.pos ≤ length text.now) × (self.old.state ≡ Instruction) }
-        ensures { Spaced text.now self.old self.new }
+    #[tactic(auto, using(crate::proofs::Leaves::ran))]
+    pub(crate) fn blanks(&mut self)
+        requires { self.old.state ≡ Instruction }
+        ensures { Spaced self.old self.new }
     {
-        while self.pos < text.len() && is_blank(text[self.pos]) {
-            self.pass(text);
-        }
+        self.skip(is_blank);
     }
 
-    // Passes the bytes of a word.
-    pub(crate) fn word(&mut self, text: &[u8])
-        requires { (self.old.pos ≤ length text.now) × (self.old.state ≡ Instruction) }
-        ensures { Worded text.now self.old self.new }
+    // Passes the bytes of a word, and tells where they stand.
+    #[tactic(auto, using(crate::proofs::Leaves::ran))]
+    pub(crate) fn word(&mut self) -> Span
+        requires { self.old.state ≡ Instruction }
+        ensures passed { Worded self.old self.new }
+        ensures span { result ≡ from_to self.old.pos self.new.pos }
     {
-        while self.pos < text.len() && is_word(text[self.pos]) {
-            self.pass(text);
-        }
+        let from = self.pos;
+        self.skip(is_word);
+        Span { from, to: self.pos }
     }
 
-    pub(crate) fn start(&self, text: &[u8]) -> Start
-        ensures { result ≡ start_at text.now self.now.pos }
+    // The operator here.
+    fn token(&self) -> Option<Op>
+        ensures { result ≡ token_at self.now.text.now self.now.pos }
     {
-        if self.pos < text.len() {
-            start_of(text[self.pos])
-        } else {
-            Start::Other
-        }
-    }
-
-    pub(crate) fn after(&self, text: &[u8]) -> After
-        ensures { result ≡ after_at text.now self.now.pos }
-    {
-        if self.pos < text.len() {
-            after_of(text[self.pos])
-        } else {
-            After::Other
-        }
-    }
-
-    fn digit(&self, text: &[u8]) -> u8
-        ensures { result ≡ digit_at text.now self.now.pos }
-    {
-        if self.pos < text.len() {
-            digit_value(text[self.pos])
-        } else {
-            16
-        }
-    }
-
-    pub(crate) fn second(&self, text: &[u8]) -> u8
-        requires { self.now.pos ≤ length text.now }
-        ensures { result ≡ slice_index text.now (self.now.pos + 1) }
-    {
-        if self.pos + 1 < text.len() {
-            text[self.pos + 1]
-        } else {
-            0
+        match self.after() {
+            After::Single(op) => Some(op),
+            After::Double(half) => self.second().and_then(|b| half.doubled(b)).or(half.alone()),
+            _ => None,
         }
     }
 
     // The operator here, if it is of the level or tighter.
-    pub(crate) fn operator(&self, text: &[u8], level: u8) -> Option<Op>
-        requires { self.now.pos ≤ length text.now }
-        ensures { result ≡ tight_at text.now level self.now.pos }
+    pub(crate) fn operator(&self, level: u8) -> Option<Op>
+        ensures { result ≡ tight_at self.now.text.now level self.now.pos }
     {
-        match token_of(self.after(text), self.second(text)) {
-            Some(op) => {
-                if level_of(op) >= level {
-                    Some(op)
-                } else {
-                    None
-                }
-            }
-            None => None,
-        }
+        self.token().filter(|op| op.level() >= level)
     }
 
     // A rule that what was just read breaks falls due here: 3 if the byte cannot stand here.
-    pub(crate) fn late(&self, text: &[u8], follow: Follow, refusal: Refusal, place: usize) -> Fault
-        ensures { Limited text.now follow self.now refusal place result }
+    pub(crate) fn late(&self, follow: Follow, refusal: Refusal, place: usize) -> Fault
+        ensures { Limited follow self.now refusal place result }
     {
-        match self.peek(text) {
-            Ok(b) => {
-                if may_follow(follow, b) {
-                    Fault { refusal, place }
-                } else {
-                    self.refuse()
-                }
-            }
-            Err(end) => end,
+        match self.peek() {
+            Some(b) if follow.allows(b) => Fault { refusal, place },
+            _ => self.refuse(),
         }
     }
 
     // What stands after an operand cannot stand there, or after `=` or `!` the byte behind that.
-    pub(crate) fn unexpected(&self, text: &[u8]) -> Fault
-        requires { (self.now.pos ≤ length text.now) × (length text.now ≤ 4096) }
-        ensures { result ≡ fault UnexpectedByte (unexpected_at text.now self.now.pos) }
+    pub(crate) fn unexpected(&self) -> Fault
+        ensures { result ≡ fault UnexpectedByte (unexpected_at self.now.text.now self.now.pos) }
     {
-        if is_halfway(self.after(text)) {
-            Fault {
+        match self.after() {
+            After::Double(Half::Equals | Half::Bang) => Fault {
                 refusal: Refusal::UnexpectedByte,
                 place: self.pos + 1,
-            }
-        } else {
-            self.refuse()
+            },
+            _ => self.refuse(),
         }
     }
 
     // Digits in the base behind the value `first`: the value with them.
-    fn digits(&mut self, text: &[u8], base: u8, first: u8) -> Option<u64>
-        requires { (self.old.pos ≤ length text.now) × ((self.old.state ≡ Instruction) × (base ≤ 16)) }
-        ensures { Digited text.now base first self.old result self.new }
+    fn digits(&mut self, base: u8, first: u8) -> Option<u64>
+        requires { (base ≤ 16) × (self.old.state ≡ Instruction) }
+        ensures { Digited base first self.old result self.new }
     {
-        let mut value = Some(first as u64);
-        loop {
-            let digit = self.digit(text);
-            if digit >= base {
-                return value;
-            }
+        let mut value = Some(u64::from(first));
+        while let Some(digit) = self.digit(base) {
             value = appended(value, base, digit);
-            self.pass(text);
+            self.pass();
         }
+        value
     }
 
     // A number constant, at its first digit.
-    pub(crate) fn numeral(&mut self, text: &[u8]) -> Result<Numeral, Fault>
-        requires { (Ready text.now self.old) × (start_at text.now self.old.pos ≡ Start.Digit) }
-        ensures { Numeraled text.now self.old result self.new }
+    pub(crate) fn numeral(&mut self) -> Result<Numeral, Fault>
+        requires { (Ready self.old) × (start_at self.old.text.now self.old.pos ≡ Start.Digit) }
+        ensures { Numeraled self.old result self.new }
     {
         let from = self.pos;
-        let first = text[self.pos];
-        self.pass(text);
+        let first = self.text[self.pos];
+        self.pass();
         let value = if first != b'0' {
-            self.digits(text, 10, first - b'0')
-        } else if self.is_prefixed(text) {
-            self.pass(text);
-            if self.digit(text) >= 16 {
+            self.digits(10, first - b'0')
+        } else if self.is_prefixed() {
+            self.pass();
+            if self.digit(16).is_none() {
                 return Err(self.refuse());
             }
-            self.digits(text, 16, 0)
+            self.digits(16, 0)
         } else {
-            self.digits(text, 8, 0)
+            self.digits(8, 0)
         };
-        Ok(Numeral {
-            from,
-            to: self.pos,
-            value,
-        })
+        let span = Span { from, to: self.pos };
+        Ok(Numeral { span, value })
     }
 
     // Whether the `x` of a hexadecimal constant stands here.
-    fn is_prefixed(&self, text: &[u8]) -> bool
-        ensures { result ≡ prefixed_at text.now self.now.pos }
+    fn is_prefixed(&self) -> bool
+        ensures { result ≡ prefixed_at self.now.text.now self.now.pos }
     {
-        self.pos < text.len() && matches!(text[self.pos], b'x' | b'X')
+        matches!(self.peek(), Some(b'x' | b'X'))
     }
 
     // A text constant, at its first quote.
-    pub(crate) fn quote(&mut self, text: &[u8]) -> Result<Quote, Fault>
-        requires { (Ready text.now self.old) × (start_at text.now self.old.pos ≡ Start.Quote) }
-        ensures { Quoted text.now self.old result self.new }
+    pub(crate) fn quote(&mut self) -> Result<Quote, Fault>
+        requires { (Ready self.old) × (start_at self.old.text.now self.old.pos ≡ Start.Quote) }
+        ensures { Quoted self.old result self.new }
     {
         let from = self.pos;
         let mut bytes: usize = 0;
-        self.take(text)?;
+        self.take()?;
         loop {
-            self.take(text)?;
+            self.take()?;
             match self.state {
                 State::Text => bytes += 1,
                 State::Escape => {}
                 _ => break,
             }
         }
-        Ok(Quote {
-            from,
-            to: self.pos,
-            bytes,
-        })
+        let span = Span { from, to: self.pos };
+        Ok(Quote { span, bytes })
     }
 }

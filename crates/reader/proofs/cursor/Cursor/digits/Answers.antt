@@ -1,19 +1,14 @@
-use Rattle.std.proofs.Common.{sym, refl, arith}
-use Rattle.std.proofs.lemmas.Bool.{cond-true, le-leb}
-use Rattle.reader.proofs.Leaves.{digiting_more}
+use Rattle.std.proofs.Common.{◌∙◌, arith}
+use Rattle.reader.proofs.Leaves.{digiting_more, digit_passes}
 use Rattle.reader.proofs.cursor.Cursor.digits.Goals as goal
 
-pub loop-value-init : goal.loop-value-init
-loop-value-init c =
-    record {
-      value = c.args.first;
-      told = sym (cond-true _ _ _ (le-leb c.args.first 9223372036854775807 (omega arith)));
-      same = refl;
-      onwards = omega arith;
-      inside = omega arith;
-      runs = λ i g. refl;
-    }
+pub loop-digit-preserved : goal.loop-digit-preserved
+loop-digit-preserved c =
+    let h = c.in-Some.ensures in
+    digiting_more _ _ c.in-Some.digit _ _ _ _ _ c.loop-digit.invariant c.pass.ensures h.1 (omega (arith, h.0, h.1)) (omega arith) (c.appended-value.ensures _ c.loop-digit.invariant.told)
 
-pub loop-value-preserved : goal.loop-value-preserved
-loop-value-preserved c =
-    digiting_more _ _ _ c.digit-digit.result _ _ _ _ _ c.loop-value.invariant c.pass.ensures c.digit-digit.ensures (omega arith) (omega arith) (c.appended-value.ensures _ c.loop-value.invariant.told)
+pub pass-requires : goal.pass-requires
+pass-requires c =
+    let r = c.loop-digit.self in
+    let p = digit_passes r.text.now r.pos (omega (arith, c.in-Some.ensures.0)) in
+    (p.0, (c.loop-digit.invariant.same.state ∙ c.requires.1, p.1))

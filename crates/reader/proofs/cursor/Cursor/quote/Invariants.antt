@@ -3,7 +3,7 @@ use Rattle.reader.proofs.Leaves.{Quoting}
 use Rattle.reader.proofs.cursor.Cursor.quote.Given as goal
 
 abbrev pub invariant-loop-bytes : goal.invariant-loop-bytes
-invariant-loop-bytes l = Quoting l.text l.from l.initial.self l.self l.bytes
+invariant-loop-bytes l = Quoting l.from l.initial.self l.self l.bytes
 
 abbrev pub decreases-loop-bytes : goal.decreases-loop-bytes
-decreases-loop-bytes l = length l.text - l.self.pos
+decreases-loop-bytes l = length l.initial.self.text.now - l.self.pos
