@@ -25,10 +25,11 @@ use Rattle.trees.specs.declared.Quote.{Quote}
 use Rattle.trees.specs.Tree.{Key, Expr, Args, Seq, Item, Items, from_to}
 use Rattle.grammar.specs.Rules.{Broken, broken_number, large, arrival, lengthy, long, wide, room, in_choice, in_block, open_blocks}
 use Rattle.grammar.specs.Machine
-use Rattle.grammar.specs.Machine.{Bracket, Head, Stack, Run, Numbered, Join, Quoted, Digits, Config, Move, stop, go, Out, onward, step, late, function, pushed, afters, nameds, wants, firsts, texts, escapes, parts, closes, completes, quotes, assigns, halves, single, numbers, numbereds, constant_at, first_digit, bares, commands, worded, looped, loop_head, lasts, joined}
+use Rattle.grammar.specs.Machine.{Bracket, Head, Stack, Run, Numbered, Join, Quoted, Digits, Config, Move, stop, go, Out, onward, step, late, pushed, afters, nameds, wants, firsts, texts, escapes, parts, closes, completes, quotes, assigns, halves, single, numbers, numbereds, constant_at, first_digit, bares, commands, worded, looped, loop_head, lasts, joined, reacts, Below}
+use Rattle.grammar.specs.Words.{function}
 use Rattle.grammar.specs.Grammar
 use Rattle.grammar.specs.Grammar.{At, Every, Blanks, part, digit_in, valued, Number, Numeral, Word, Name, Command, Chars, Text, Written, Spells, Keyed, Listed, Arguments, ItemsOf, Groups, Group, Commas, Dots, Says}
-use Rattle.grammar.proofs.Moves.{reacts, on, moves, alike, stays, want_stays, first_stays, aft_stays, named_stays, dots_stays, last_wanted_stays, last_done_stays, bare_stays, naming_stays, Below, below_more, reduce_all, reduce_none}
+use Rattle.grammar.proofs.Moves.{on, moves, alike, stays, want_stays, first_stays, aft_stays, named_stays, dots_stays, last_wanted_stays, last_done_stays, bare_stays, naming_stays, below_more, reduce_all, reduce_none}
 
 -- the reading goes on, whatever rules are broken
 abbrev pub reads : List ℕ → Config → ℕ → Out

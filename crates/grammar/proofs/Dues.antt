@@ -24,8 +24,8 @@ use Rattle.trees.specs.declared.Constant.{Constant}
 use Rattle.trees.specs.declared.Quote.{Quote}
 use Rattle.trees.specs.Tree.{Key, Expr, Seq, Item, Items}
 use Rattle.grammar.specs.Rules.{Rule, Broken, breaks, large, lengthy, wide, long, deep, known, counted, arrival, broken_number, broken, broken_key, broken_args, broken_seq, Opened, open_blocks, room, in_choice, in_block, broken_item, broken_items, unclosed, broken_rules}
-use Rattle.grammar.specs.Machine.{Bracket, Head, Stack, Run, Numbered, Quoted, Digits, Config, Move, stop, go, late, depth, function, keyword_of, reduce, pushed, operator, shut, next, complete, delimits, closes, parts, completes, quotes, afters, nameds, sign, constant, running, pair, dotted, first_digit, wants, hollow, firsts, bares, commands, commanded, worded, assigned, assigns, single, halves, lasts, numbereds, constant_at, numbers, row, joined, quoteds, loop_head, looped, piece, step, finish, Out, accepted, judged, finished, run}
-use Rattle.grammar.proofs.Moves.{reacts_on}
+use Rattle.grammar.specs.Machine.{Bracket, Head, Stack, Run, Numbered, Quoted, Digits, Config, Move, stop, go, late, depth, reduce, pushed, operator, shut, next, complete, delimits, closes, parts, completes, quotes, afters, nameds, sign, constant, running, pair, dotted, first_digit, wants, hollow, firsts, bares, commands, commanded, worded, assigned, assigns, single, halves, lasts, numbereds, constant_at, numbers, row, joined, quoteds, loop_head, looped, piece, step, finish, Out, accepted, judged, finished, run, reacts_on}
+use Rattle.grammar.specs.Words.{function, keyword_of}
 
 -- ---- what is broken by all that is complete in a configuration
 

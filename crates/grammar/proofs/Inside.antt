@@ -25,7 +25,8 @@ use Rattle.trees.specs.declared.Constant.{Constant}
 use Rattle.trees.specs.declared.Quote.{Quote}
 use Rattle.trees.specs.Tree.{Key, Expr, Args, Seq, Opening, Item, Items}
 use Rattle.grammar.specs.Rules.{long, room, open_blocks, in_choice, in_block, broken_number, large, arrival, lengthy, wide}
-use Rattle.grammar.specs.Machine.{Stack, Bracket, Head, Run, Numbered, Quoted, Digits, Config, step, reduce, pushed, operator, complete, delimits, closes, parts, completes, quotes, afters, nameds, sign, constant, running, pair, dotted, first_digit, wants, hollow, firsts, bares, commands, commanded, worded, assigned, assigns, halves, lasts, numbereds, constant_at, numbers, texts, escapes, joined, quoteds, loop_head, looped, function, keyword_of}
+use Rattle.grammar.specs.Machine.{Stack, Bracket, Head, Run, Numbered, Quoted, Digits, Config, step, reduce, pushed, operator, complete, delimits, closes, parts, completes, quotes, afters, nameds, sign, constant, running, pair, dotted, first_digit, wants, hollow, firsts, bares, commands, commanded, worded, assigned, assigns, halves, lasts, numbereds, constant_at, numbers, texts, escapes, joined, quoteds, loop_head, looped}
+use Rattle.grammar.specs.Words.{function, keyword_of}
 use Rattle.grammar.specs.Grammar
 use Rattle.grammar.specs.Grammar.{At, Every, Blanks, part, digit_in, valued, Number, Word, Name, Command, Chars, Written, Spells, Keyed, Listed, Groups, Group, Dots, Says, Body, Begun}
 use Rattle.grammar.proofs.Moves.{level_most}

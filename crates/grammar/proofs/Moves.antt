@@ -1,22 +1,14 @@
 -- How the reading goes on, byte by byte. Assumes nothing.
-use Rattle.std.proofs.Common.{◌≡◌, ℕ, zero, suc, ◌+◌, ◌-◌, ◌<◌, ◌≤◌, Bool, true, List, [], length, get_or, drop, sym, refl, ap, ◌∙◌, ⊎_elim, arith}
+use Rattle.std.proofs.Common.{◌≡◌, ℕ, zero, suc, ◌+◌, ◌-◌, ◌<◌, ◌≤◌, Bool, true, List, [], length, get_or, sym, refl, ap, ◌∙◌, ⊎_elim, arith}
 use Rattle.std.proofs.lemmas.List.{drop_more, drop_all}
 use Rattle.std.proofs.lemmas.Bool.{cond-true, cond-false, le-leb, lt-leb, cases_lt}
-use Rattle.refusals.specs.declared.Refusal.TheVariants.{UnexpectedByte}
 use Rattle.tokens.specs.declared.operator.Op.{Op}
 use Rattle.tokens.specs.declared.operator.Op.TheVariants as op
 use Rattle.tokens.specs.Bytes.{blank}
 use Rattle.tokens.specs.Operators.{level}
 use Rattle.trees.specs.Tree.{Expr, Item, Items}
-use Rattle.grammar.specs.Machine.{Stack, Config, Move, stop, go, Run, Out, refused, run, onward, judged, finished, finish, step, late, reduce, afters, nameds, wants, firsts, lasts}
+use Rattle.grammar.specs.Machine.{Below, reacts, Stack, Config, Move, stop, go, Run, run, onward, finished, finish, step, late, reduce, afters, nameds, wants, firsts, lasts}
 use Rattle.grammar.specs.Grammar.{Blanks}
-
--- the answer to a move at p, with the bytes bs behind it
-abbrev pub reacts_on : Bool → List ℕ → ℕ → Move → Out
-reacts_on m bs p v = elim v [ stop ↦ refused UnexpectedByte p | go d c ↦ judged m d (run bs m c (p + 1)) ]
-
-abbrev pub reacts : Bool → List ℕ → ℕ → Move → Out
-reacts m text p v = reacts_on m (drop (p + 1) text) p v
 
 module _ (m : Bool) (text : List ℕ) where
   pub on : (c : Config) (p : ℕ) → p < length text → onward m text c p ≡ reacts m text p (step c p (get_or text p 0))
@@ -112,13 +104,6 @@ level_most op.Subtract = omega arith
 level_most op.Multiply = omega arith
 level_most op.Divide = omega arith
 level_most op.Remainder = omega arith
-
--- what waits on top is looser than the level n; a sign has level 11
-abbrev pub Below : ℕ → Stack → Type 0
-Below n (Stack.top q h ts) = Unit {0}
-Below n (Stack.binary q o l k) = level o < n
-Below n (Stack.signed q s k) = 11 < n
-Below n (Stack.open' b k) = Unit {0}
 
 pub below_more : (n n' : ℕ) (k : Stack) → n ≤ n' → Below n k → Below n' k
 below_more n n' (Stack.top q h ts) le b = tt

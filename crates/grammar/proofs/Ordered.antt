@@ -11,7 +11,7 @@ use Rattle.trees.specs.Tree.{Key, Expr, Args, Seq, Item, Items, count_args}
 use Rattle.grammar.specs.Rules.{Rule, four, five, six, seven, eight, refusal_of, Broken, breaks, large, lengthy, wide, long, deep, known, counted, arrival, broken_number, broken, broken_key, broken_args, broken_seq, Opened, open_blocks, broken_item, broken_items, unclosed, broken_rules}
 use Rattle.grammar.specs.Grammar
 use Rattle.grammar.specs.Grammar.{Number, Chars, Text, Written, Spells, Keyed, Listed, Arguments, ItemsOf, Groups, Group, Commas, Dots, Says, Lines, Line, Body, Begun, Template}
-use Rattle.grammar.specs.Laws.{Sooner, Among, Earliest}
+use Rattle.grammar.specs.Laws.{Sooner, Among}
 
 -- one number for the byte at which a rule falls due and the rule's own number, which is below 16
 abbrev rank : Broken → ℕ
@@ -241,6 +241,3 @@ least_of f fs o g m = ⊎_elim (λ e. subst (λ x. Sooner f x) (sym e) (sooner_i
 -- the first one falls due first
 pub first_least : (text : List ℕ) (ts : Items) (f : Broken) (fs : List Broken) → Template text ts → broken_rules ts (length text) ≡ f ∷ fs → (g : Broken) → Among g (f ∷ fs) → Sooner f g
 first_least text ts f fs t e = least_of f fs (subst Ordered e (ordered text ts t))
-
-pub first_earliest : (text : List ℕ) (ts : Items) (f : Broken) (fs : List Broken) → Template text ts → broken_rules ts (length text) ≡ f ∷ fs → Earliest f (broken_rules ts (length text))
-first_earliest text ts f fs t e = subst (Earliest f) (sym e) (record { among = inl refl; least = first_least text ts f fs t e })

@@ -1,5 +1,5 @@
 -- A refusal by number 3 names the byte with which no template goes on, and one by 4 to 8 the rule that falls due first. Assumes nothing.
-use Rattle.std.proofs.Common.{◌≡◌, ℕ, zero, suc, ◌+◌, ◌-◌, ◌≤◌, Bool, true, false, cond, not, ◌&&◌, eqb, List, [], ◌∷◌, ◌++◌, length, take, Some, None, Option, sym, refl, ap, ◌∙◌, subst, inl, ⊎_elim, true≢false, append_assoc, append-nil, arith}
+use Rattle.std.proofs.Common.{◌≡◌, ℕ, zero, suc, ◌+◌, ◌-◌, ◌≤◌, Bool, true, false, cond, not, ◌&&◌, eqb, List, [], ◌∷◌, ◌++◌, length, take, Some, None, Option, sym, refl, ap, ◌∙◌, subst, ⊎_elim, true≢false, append_assoc, append-nil, arith}
 use Rattle.std.proofs.lemmas.Bool.{cond-false, le-ltb, eq-eqb, and_parts}
 use Rattle.std.proofs.lemmas.List.{take_at, length-take-le}
 use Rattle.order.specs.Made.{bytes_order}
@@ -24,10 +24,11 @@ use Rattle.trees.specs.Tree.{Key, Expr, Args, Seq, Opening, Item, Items, from_to
 use Rattle.grammar.specs.Rules
 use Rattle.grammar.specs.Rules.{Rule, refusal_of, Broken, Opened, open_blocks, broken_items, unclosed, broken_rules}
 use Rattle.grammar.specs.Machine
-use Rattle.grammar.specs.Machine.{Bracket, Head, Stack, Run, Numbered, Join, Quoted, Digits, Config, Move, stop, go, late, keyword_of, reduce, pushed, afters, nameds, closes, completes, quotes, worded, halves, looped, loop_head, numbereds, constant_at, joined, step, finish, accepted, refused, judged, finished, run, reading}
+use Rattle.grammar.specs.Machine.{Bracket, Head, Stack, Run, Numbered, Join, Quoted, Digits, Config, Move, stop, go, late, reduce, pushed, afters, nameds, closes, completes, quotes, worded, halves, looped, loop_head, numbereds, constant_at, joined, step, finish, accepted, refused, judged, finished, run, reading, reacts_on}
+use Rattle.grammar.specs.Words.{keyword_of}
 use Rattle.grammar.specs.Grammar.{Template}
 use Rattle.grammar.specs.Laws.{Among, NothingDue, NamesTheByte, Sooner, Earliest, NamesTheRule}
-use Rattle.grammar.proofs.Moves.{reacts_on, reduce_all}
+use Rattle.grammar.proofs.Moves.{reduce_all}
 use Rattle.grammar.proofs.Dues.{seen, Sees, seen_step, seen_finish, strict, free, Due, Base, Here, Falls, due_step}
 
 place_is : {f f' : Refusal} {p q : ℕ} → refused f p ≡ refused f' q → p ≡ q
@@ -616,7 +617,7 @@ fault (b ∷ bs) c s r q here e = fault_by b bs c s r q (step c s b) refl (seen_
 -- ---- the laws
 
 earliest : (f : Broken) (fs gs : List Broken) → gs ≡ f ∷ fs → (gs ≡ f ∷ fs → (g : Broken) → Among g (f ∷ fs) → Sooner f g) → Earliest f gs
-earliest f fs gs e h = subst (Earliest f) (sym e) (record { among = inl refl; least = h e })
+earliest f fs gs e h = record { rest = fs; first = e; least = λ g a. h e g (subst (Among g) e a) }
 
 module _ (complete : (text : List ℕ) (ts : Items) → Template text ts → reading false text ≡ accepted ts)
     (sound : (text : List ℕ) (ts : Items) → reading false text ≡ accepted ts → Template text ts) where

@@ -7,10 +7,10 @@ use Rattle.tokens.specs.declared.byte.Class.TheVariants as is
 use Rattle.tokens.specs.Bytes.{start, after, class, blank}
 use Rattle.trees.specs.Tree.{Item, Items}
 use Rattle.grammar.specs.Rules.{Broken}
-use Rattle.grammar.specs.Machine.{Stack, Head, Config, Move, stop, go, Out, accepted, refused, onward, reading, judged, finish, finished, step, row, piece}
+use Rattle.grammar.specs.Machine.{Stack, Head, Config, Move, stop, go, Out, accepted, refused, onward, reading, judged, finish, finished, step, row, piece, reacts}
 use Rattle.grammar.specs.Grammar
 use Rattle.grammar.specs.Grammar.{At, Blanks, Plainly, Line, Body, Begun, Template}
-use Rattle.grammar.proofs.Moves.{on, at_end, reacts}
+use Rattle.grammar.proofs.Moves.{on, at_end}
 use Rattle.grammar.proofs.Upto.{up_show, every_none, every_more, class_newline, class_return, class_dollar, class_solid, class_blank}
 use Rattle.grammar.proofs.Said.{PlainClass, SameLine, Solid, NoDollar, Wanted, AtLine, InPlain, InComment, DollarAtLine, DollarElse, Rep, Next, none_yet}
 use Rattle.grammar.proofs.Inside.{wants_next, firsts_next, numbers_next, name_next, texts_next, escapes_next, quoteds_next, nameds_next, afters_next, halves_next, dots_next, last_wanted_next, lasts_next, bares_next, naming_next, loop_name_next, new_plain}

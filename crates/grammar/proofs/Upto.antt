@@ -21,10 +21,11 @@ use Rattle.tokens.specs.declared.byte.Class.TheVariants as is
 use Rattle.tokens.specs.Bytes.{start, after, class, blank, digit, letter, word, digit_value}
 use Rattle.tokens.specs.Operators.{level, sign_byte, half_byte}
 use Rattle.trees.specs.Tree.{Key, Expr, Args, Seq, Items}
-use Rattle.grammar.specs.Machine.{Stack, Bracket, Head, function, reduce}
+use Rattle.grammar.specs.Machine.{Stack, Bracket, Head, reduce, Below}
+use Rattle.grammar.specs.Words.{function}
 use Rattle.grammar.specs.Grammar
 use Rattle.grammar.specs.Grammar.{At, Every, Blanks, part, valued, Name, Command, Written, Spells, Keyed, Arguments, Groups, Commas, Begun}
-use Rattle.grammar.proofs.Moves.{Below, level_least, level_most}
+use Rattle.grammar.proofs.Moves.{level_least, level_most}
 
 -- a weaker level
 pub weaken : {text : List ℕ} {t : Expr} {i j : ℕ} (k n n' : ℕ) → n' ≡ n + k → Spells text n' t i j → Spells text n t i j

@@ -7,10 +7,10 @@ use Rattle.tokens.specs.declared.byte.Class.TheVariants as is
 use Rattle.tokens.specs.Bytes.{start, class, blank}
 use Rattle.trees.specs.Tree.{Item, Items}
 use Rattle.grammar.specs.Rules.{Broken, open_blocks, unclosed}
-use Rattle.grammar.specs.Machine.{Head, Stack, Config, Move, go, Out, accepted, reading, judged, finish, finished, step, row, piece}
+use Rattle.grammar.specs.Machine.{Head, Stack, Config, Move, go, Out, accepted, reading, judged, finish, finished, step, row, piece, reacts}
 use Rattle.grammar.specs.Grammar
 use Rattle.grammar.specs.Grammar.{At, Blanks, Plainly, Lines, Line, Body, Begun, Template}
-use Rattle.grammar.proofs.Moves.{reacts, at_end, moves, alike, stays}
+use Rattle.grammar.proofs.Moves.{at_end, moves, alike, stays}
 use Rattle.grammar.proofs.Complete.{reads, Begin, Begins, class_newline, says, says_begins}
 
 pub class_blank : (b : ℕ) → blank b ≡ true → class b ≡ is.Blank

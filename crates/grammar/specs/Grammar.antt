@@ -12,7 +12,7 @@ use Rattle.tokens.specs.Operators.{level, sign_byte}
 use Rattle.trees.specs.declared.Constant.{Constant}
 use Rattle.trees.specs.declared.Quote.{Quote}
 use Rattle.trees.specs.Tree.{Key, Expr, Args, Seq, Opening, Item, Items}
-use Rattle.grammar.specs.Machine.{function, keyword_of}
+use Rattle.grammar.specs.Words.{function, keyword_of}
 
 -- byte b stands at place i
 abbrev pub At : List ℕ → ℕ → ℕ → Type 0

@@ -20,7 +20,7 @@ Exact = (text : List ℕ) (ts : Items) → (Faultless text ts → reading true t
 abbrev pub OneReading : Type 0
 OneReading = (text : List ℕ) (ts ts' : Items) → Template text ts → Template text ts' → ts ≡ ts'
 
--- the first p bytes of the text begin some template, the rules 4 to 8 apart
+-- the first p bytes of the text begin some template (of any length), the rules 4 to 8 apart
 pub record Viable (text : List ℕ) (p : ℕ) : Type 0 where
   pub other : List ℕ
   pub items : Items
@@ -47,9 +47,11 @@ NamesTheByte = (text : List ℕ) (p : ℕ) → reading true text ≡ refused Une
 abbrev pub Sooner : Broken → Broken → Type 0
 Sooner f g = (f.due < g.due) ⊎ ((f.due ≡ g.due) × (number_of (refusal_of f.rule) ≤ number_of (refusal_of g.rule)))
 
--- f is among the broken rules, and none of them is sooner
+-- f is the first of the broken rules, and none of them is sooner. So of two with one number that fall due at one byte (a sequence's last
+-- constant that is too large, and the sequence that does not arrive) it is the one that the rules list first.
 pub record Earliest (f : Broken) (fs : List Broken) : Type 0 where
-  pub among : Among f fs
+  pub rest : List Broken
+  pub first : fs ≡ f ∷ rest
   pub least : (g : Broken) → Among g fs → Sooner f g
 
 -- A refusal by 4 to 8 has a byte p (or the template's length) at which it falls due. With that byte the text still begins a template, the

@@ -1,3 +1,4 @@
+pub mod Words
 pub mod Rules
 pub mod Machine
 pub mod Grammar

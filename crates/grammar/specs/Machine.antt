@@ -1,14 +1,10 @@
 -- The reading of a template as a machine that takes one byte at a time. Assumes nothing.
 -- `step` knows the grammar alone: it stops at the byte with which no template goes on (number 3). Beside the next configuration it
 -- says which of the rules 4 to 8 fall due at this byte as broken. So the order of the refusals is `run`: 3 comes first, then what is due.
-use Rattle.std.specs.Prelude.{ℕ, zero, suc, ◌+◌, ◌-◌, ◌*◌, Bool, true, false, cond, ◌||◌, List, [], ◌∷◌, ◌++◌, drop, Some, None, Option, ◌==◌, nat_le, nat_lt}
-use Rattle.order.specs.Made.{bytes_order}
-use Rattle.order.specs.Names.{lookup}
+use Rattle.std.specs.Prelude.{ℕ, zero, suc, ◌+◌, ◌-◌, ◌*◌, ◌<◌, Bool, true, false, cond, ◌||◌, List, [], ◌∷◌, ◌++◌, drop, Some, None, Option, ◌==◌, nat_le, nat_lt}
 use Rattle.functions.specs.declared.Signature.{Signature}
-use Rattle.functions.specs.Table.{functions}
 use Rattle.keywords.specs.declared.Keyword.{Keyword}
 use Rattle.keywords.specs.declared.Keyword.TheVariants as keyword
-use Rattle.keywords.specs.Words.{keywords}
 use Rattle.refusals.specs.declared.Refusal.{Refusal}
 use Rattle.refusals.specs.declared.Refusal.TheVariants.{UnexpectedByte}
 use Rattle.tokens.specs.declared.operator.Op.{Op}
@@ -30,6 +26,7 @@ use Rattle.tokens.specs.Operators.{level, doubled, alone}
 use Rattle.trees.specs.declared.Constant.{Constant}
 use Rattle.trees.specs.declared.Quote.{Quote}
 use Rattle.trees.specs.Tree.{Key, Expr, Args, Seq, Opening, Item, Items, from_to, count_args}
+use Rattle.grammar.specs.Words.{function, keyword_of}
 use Rattle.grammar.specs.Rules.{refusal_of, Broken, large, lengthy, wide, long, deep, known, counted, arrival, broken_number, open_blocks, room, in_choice, in_block, unclosed}
 
 -- a bracket that stands open, with its place and what it holds so far
@@ -135,18 +132,19 @@ depth (binary q o l k) = depth k
 depth (signed q s k) = depth k
 depth (open' b k) = suc (depth k)
 
-abbrev pub function : List ℕ → Option Signature
-function w = lookup bytes_order w functions
-
-abbrev pub keyword_of : List ℕ → Option Keyword
-keyword_of w = lookup bytes_order w keywords
-
 -- what an operator of level n, or with level 0 a closing sign, brings together: operators on the stack that are no looser, and signs
 abbrev pub reduce : ℕ → Expr → Stack → Expr × Stack
 reduce n t (top q h ts) = (t, top q h ts)
 reduce n t (binary q o l k) = cond (nat_le n (level o)) (reduce n (Expr.binary q o l t) k) (t, binary q o l k)
 reduce n t (signed q s k) = reduce n (Expr.signed q s t) k
 reduce n t (open' b k) = (t, open' b k)
+
+-- what waits on top is looser than the level n; a sign has level 11
+abbrev pub Below : ℕ → Stack → Type 0
+Below n (Stack.top q h ts) = Unit {0}
+Below n (Stack.binary q o l k) = level o < n
+Below n (Stack.signed q s k) = 11 < n
+Below n (Stack.open' b k) = Unit {0}
 
 -- the operator o at q after an operand
 abbrev pub pushed : ℕ → Op → Expr × Stack → Stack
@@ -566,3 +564,10 @@ reading m text = run text m (line Items.none) 0
 -- the reading goes on at p in the configuration c
 abbrev pub onward : Bool → List ℕ → Config → ℕ → Out
 onward m text c p = run (drop p text) m c p
+
+-- the answer to a move at p, with the bytes bs behind it
+abbrev pub reacts_on : Bool → List ℕ → ℕ → Move → Out
+reacts_on m bs p v = elim v [ stop ↦ refused UnexpectedByte p | go d c ↦ judged m d (run bs m c (p + 1)) ]
+
+abbrev pub reacts : Bool → List ℕ → ℕ → Move → Out
+reacts m text p v = reacts_on m (drop (p + 1) text) p v
