@@ -1,6 +1,5 @@
--- Number constants and text constants. Assumes nothing.
-use Rattle.std.proofs.Common.{◌≡◌, ℕ, ◌+◌, ◌-◌, ◌*◌, ◌<◌, ◌≤◌, Bool, true, false, cond, ◌||◌, eqb, ltb, ◌⊎◌, List, [], length, get_or, Bor, IsErrAnd, SomeIff, is_some, Some, None, Ok, Err, Option, Result, sym, refl, ap, ◌∙◌, subst, inl, inr, ⊎_elim, arith}
-use Rattle.std.proofs.lemmas.Option.{slice_get-get_or, slice_get_past}
+-- What is refused, number constants and text constants. Assumes nothing.
+use Rattle.std.proofs.Common.{◌≡◌, ℕ, ◌+◌, ◌-◌, ◌*◌, ◌<◌, ◌≤◌, Bool, true, false, ◌||◌, eqb, ltb, ◌⊎◌, List, [], length, get_or, Bor, IsErrAnd, SomeIff, is_some, Some, None, Ok, Err, Option, Result, sym, refl, ap, ◌∙◌, subst, inl, ⊎_elim, arith}
 use Rattle.std.proofs.lemmas.Result.{err_from_is_err_and}
 use Rattle.std.proofs.lemmas.Bool.{cond-true, cond-false, lt-ltb, le-ltb, eq-eqb, ne_eqb, cases_lt}
 use Rattle.std.proofs.lemmas.Bool.Decides.{nat_tests}
@@ -10,32 +9,25 @@ use Rattle.tokens.specs.declared.byte.Start.TheVariants as at
 use Rattle.tokens.specs.declared.byte.Class.{Class}
 use Rattle.tokens.specs.declared.byte.Class.TheVariants as is
 use Rattle.tokens.specs.Bytes.{start, class, digit_value}
-use Rattle.trees.specs.declared.Quote.{Quote}
 use Rattle.trees.specs.Tree.{from_to}
-use Rattle.grammar.specs.Machine.{nought, prefix, digits, Config, in_number, in_text, escape, quoted, Numbered, Quoted as Goal, Move, stop, go, step, onward, refused, first_digit, numbereds, constant_at, texts, escapes}
+use Rattle.grammar.specs.Machine.{nought, prefix, digits, Config, in_number, in_text, escape, quoted, Numbered, Quoted as Goal, Move, stop, go, step, finish, finished, onward, refused, first_digit}
 use Rattle.grammar.proofs.Moves.{at_end, moves, alike}
 use Rattle.reader.specs.declared.cursor.Cursor.{Cursor}
 use Rattle.reader.specs.declared.cursor.State.{State}
-use Rattle.reader.specs.declared.cursor.State.TheVariants.{Line, Plain, Comment, Instruction, Text, DollarAtLine, Dollar, Escape}
+use Rattle.reader.specs.declared.cursor.State.TheVariants.{Instruction, Text, Escape}
 use Rattle.reader.specs.declared.fault.Fault.{Fault}
-use Rattle.reader.specs.States.{moved, Inner, fault, MovedTo, Taken}
-use Rattle.reader.specs.Scans.{start_of, start_at, digit_of, digit_at, prefixed_at, capped, Skipped, Ran, Digited, Numbers, Quotes, Quoted}
+use Rattle.reader.specs.States.{moved, fault, MovedTo, Taken}
+use Rattle.reader.specs.Scans.{start_at, digit_at, prefixed_at, capped, Skipped, Ran, Digited, Numbers, Quotes}
+use Rattle.reader.proofs.Places.{start_is, digit_here, digit_inside}
+use Rattle.reader.proofs.Passing.{there, moved_on}
 
+-- a fault is the refusal that it tells
 pub as_refused : (f : Fault) (n : Refusal) (p : ℕ) → f ≡ fault n p → refused n p ≡ refused f.refusal f.place
 as_refused f n p e = ap (λ (x : Fault). refused x.refusal x.place) (sym e)
 
--- what stands at a place
-pub digit_here : (text : List ℕ) (p : ℕ) → p < length text → digit_at text p ≡ digit_value (get_or text p 0)
-digit_here text p lt = ap digit_of (slice_get-get_or text p 0 lt)
-
-digit_past : (text : List ℕ) (p : ℕ) → length text ≤ p → digit_at text p ≡ 16
-digit_past text p ge = ap digit_of (slice_get_past text p ge)
-
-pub digit_inside : (text : List ℕ) (p : ℕ) → digit_at text p < 16 → p < length text
-digit_inside text p h = ⊎_elim (λ lt. lt) (λ ge. absurd (omega (arith, digit_past text p ge))) (cases_lt p (length text))
-
-pub start_inside : (text : List ℕ) (p : ℕ) → (start_at text p ≡ at.Other → ⊥) → p < length text
-start_inside text p other = ⊎_elim (λ lt. lt) (λ ge. absurd (other (ap start_of (slice_get_past text p ge)))) (cases_lt p (length text))
+-- no byte may stand here, nor may the text end
+pub refuses : (m : Bool) (text : List ℕ) (c : Config) (p : ℕ) → (p < length text → step c p (get_or text p 0) ≡ stop) → finish c p ≡ None → onward m text c p ≡ refused UnexpectedByte p
+refuses m text c p byte end = ⊎_elim (λ lt. moves m text c p stop lt (byte lt)) (λ ge. at_end m text c p ge ∙ ap (λ o. finished m o p) end) (cases_lt p (length text))
 
 -- the `x` of a hexadecimal constant
 prefixed_here : (text : List ℕ) (p : ℕ) → prefixed_at text p ≡ true → (p < length text) × ((eqb (get_or text p 0) 120 || eqb (get_or text p 0) 88) ≡ true)
@@ -60,7 +52,7 @@ module _ (m : Bool) (text : List ℕ) where
   octal_first i b g p e none =
       nought_first i b g p e
       ∙ alike m text (in_number i nought g) (in_number i (digits 8 0) g) p
-      (λ lt. cond-false _ _ _ (prefixed_not text p lt none) ∙ ap (λ v. cond (ltb (digit_value (get_or text p 0)) 8) (go [] (in_number i (digits 8 v) g)) (numbereds g (constant_at i p 0) (get_or text p 0) p)) (omega arith))
+      (λ lt. grind (arith, nat_tests, prefixed_not text p lt none))
       refl
 
   prefix_first : (i b : ℕ) (g : Numbered) (p : ℕ) → b ≡ 48 → prefixed_at text p ≡ true → onward m text (in_number i (first_digit b) g) p ≡ onward m text (in_number i prefix g) (p + 1)
@@ -75,17 +67,14 @@ module _ (m : Bool) (text : List ℕ) where
       let digit : ltb (digit_value (get_or text (p + 1) 0)) 16 ≡ true = lt-ltb (digit_value (get_or text (p + 1) 0)) 16 (omega (arith, digit_here text (p + 1) lt)) in
       prefix_first i b g p e x
       ∙ alike m text (in_number i prefix g) (in_number i (digits 16 0) g) (p + 1)
-      (λ lt. cond-true _ _ _ digit ∙ ap (λ v. go [] (in_number i (digits 16 v) g)) (omega arith) ∙ sym (cond-true _ _ _ digit))
+      (λ lt. grind (arith, digit))
       refl
 
   -- `0x` without a digit
   pub hexadecimal_stop : (i b : ℕ) (g : Numbered) (p : ℕ) → b ≡ 48 → prefixed_at text p ≡ true → 16 ≤ digit_at text (p + 1) → onward m text (in_number i (first_digit b) g) p ≡ refused UnexpectedByte (p + 1)
   hexadecimal_stop i b g p e x h =
       prefix_first i b g p e x
-      ∙ ⊎_elim
-      (λ lt. moves m text (in_number i prefix g) (p + 1) stop lt (cond-false _ _ _ (le-ltb (digit_value (get_or text (p + 1) 0)) 16 (omega (arith, digit_here text (p + 1) lt)))))
-      (λ ge. at_end m text (in_number i prefix g) (p + 1) ge)
-      (cases_lt (p + 1) (length text))
+      ∙ refuses m text (in_number i prefix g) (p + 1) (λ lt. cond-false _ _ _ (le-ltb (digit_value (get_or text (p + 1) 0)) 16 (omega (arith, digit_here text (p + 1) lt)))) refl
 
 -- a test that answers as a function does
 pub ran : (test : ℕ → Bool) (answers : ℕ → Bool → Type 0) (r r' : Cursor) → ((b : ℕ) (o : Bool) → answers b o → o ≡ test b) → Skipped answers r r' → Ran test r r'
@@ -106,22 +95,10 @@ pub record Digiting (n first : ℕ) (r : Cursor) (o : Option ℕ) (r' : Cursor) 
 
 -- whether a digit of the base n stands here, by its value d
 pub no_digit : (o : Option ℕ) (d n : ℕ) → SomeIff o (d < n) d → is_some o ≡ false → n ≤ d
-no_digit (Some x) d n h e = absurd (cc)
-no_digit None d n h e = omega (arith, h)
+no_digit o d n h e = grind arith
 
 pub a_digit : (o : Option ℕ) (d n : ℕ) → SomeIff o (d < n) d → is_some o ≡ true → d < n
-a_digit (Some x) d n h e = h.0
-a_digit None d n h e = absurd (cc)
-
--- what stands at the place that a cursor has come to
-pub at_place : {A : Type 0} (f : List ℕ → ℕ → A) {r r' : Cursor} {p : ℕ} → MovedTo r p r' → f r'.text.now r'.pos ≡ f r.text.now p
-at_place f {r} {r'} m = ap (λ (t : Bor (List ℕ)). f t.now r'.pos) m.text ∙ ap (f r.text.now) m.pos
-
-pub moved_more : {r r₁ r₂ : Cursor} {p : ℕ} → MovedTo r p r₁ → MovedTo r₁ (r₁.pos + 1) r₂ → MovedTo r (p + 1) r₂
-moved_more a b = record { text = b.text ∙ a.text; state = b.state ∙ a.state; pos = b.pos ∙ ap (λ q. q + 1) a.pos; table = b.table ∙ a.table }
-
-moved_on : {r r₁ r₂ : Cursor} {p q : ℕ} → MovedTo r p r₁ → MovedTo r₁ q r₂ → MovedTo r r₂.pos r₂
-moved_on a b = record { text = b.text ∙ a.text; state = b.state ∙ a.state; pos = refl; table = b.table ∙ a.table }
+a_digit o d n h e = grind arith
 
 -- one digit more
 pub digiting_more : (n first d : ℕ) (r r₁ r₂ : Cursor) (o o' : Option ℕ) → (h : Digiting n first r o r₁) → MovedTo r₁ (r₁.pos + 1) r₂ → d ≡ digit_at r₁.text.now r₁.pos → d < n → n ≤ 16 → o' ≡ capped (n * h.value + d) → Digiting n first r o' r₂
@@ -155,24 +132,13 @@ numeral_read n first p r r₁ r' r'' o o'' same far begins d e e' =
 
 -- the configuration in which the machine of eight states has the state s, inside a text constant from i on and right after it
 abbrev pub quoting : State → ℕ → ℕ → ℕ → Goal → Config
-quoting Text i n p g = in_text i n g
 quoting Escape i n p g = escape i n g
 quoting Instruction i n p g = quoted (record { span = from_to i p; bytes = n }) g
-quoting Line i n p g = in_text i n g
-quoting Plain i n p g = in_text i n g
-quoting Comment i n p g = in_text i n g
-quoting DollarAtLine i n p g = in_text i n g
-quoting Dollar i n p g = in_text i n g
+quoting s i n p g = in_text i n g
 
 abbrev pub bump : State → ℕ → ℕ
 bump Text n = n + 1
-bump Escape n = n
-bump Instruction n = n
-bump Line n = n
-bump Plain n = n
-bump Comment n = n
-bump DollarAtLine n = n
-bump Dollar n = n
+bump s n = n
 
 abbrev pub Within : State → Type 0
 Within s = (s ≡ Text) ⊎ (s ≡ Escape)
@@ -181,40 +147,18 @@ abbrev Next : Option State → Move → ℕ → ℕ → ℕ → Goal → Type 0
 Next (Some s) v i n p g = v ≡ go [] (quoting s i (bump s n) (p + 1) g)
 Next None v i n p g = v ≡ stop
 
-text_next : (cl : Class) (i n p : ℕ) (g : Goal) → Next (moved Text cl) (texts cl i n g p) i n p g
-text_next is.Newline i n p g = refl
-text_next is.Return i n p g = refl
-text_next is.Blank i n p g = refl
-text_next is.Dollar i n p g = refl
-text_next is.Quote i n p g = refl
-text_next is.Backslash i n p g = refl
-text_next is.Escaped i n p g = refl
-text_next is.Other i n p g = refl
-
-escape_next : (cl : Class) (i n p : ℕ) (g : Goal) → Next (moved Escape cl) (escapes cl i n g) i n p g
-escape_next is.Newline i n p g = refl
-escape_next is.Return i n p g = refl
-escape_next is.Blank i n p g = refl
-escape_next is.Dollar i n p g = refl
-escape_next is.Quote i n p g = refl
-escape_next is.Backslash i n p g = refl
-escape_next is.Escaped i n p g = refl
-escape_next is.Other i n p g = refl
-
 within_next : (s : State) → Within s → (i n p b : ℕ) (g : Goal) → Next (moved s (class b)) (step (quoting s i n p g) p b) i n p g
-within_next s (inl e) i n p b g = subst (λ s. Next (moved s (class b)) (step (quoting s i n p g) p b) i n p g) (sym e) (text_next (class b) i n p g)
-within_next s (inr e) i n p b g = subst (λ s. Next (moved s (class b)) (step (quoting s i n p g) p b) i n p g) (sym e) (escape_next (class b) i n p g)
+within_next s q i n p b g = grind arith
 
-module _ (m : Bool) (text : List ℕ) where
-  quote_on : (s s' : State) → Within s → (i n p : ℕ) (g : Goal) → p < length text → moved s (class (get_or text p 0)) ≡ Some s' → onward m text (quoting s i n p g) p ≡ onward m text (quoting s' i (bump s' n) (p + 1) g) (p + 1)
-  quote_on s s' q i n p g lt e = moves m text _ p _ lt (subst (λ o. Next o (step (quoting s i n p g) p (get_or text p 0)) i n p g) e (within_next s q i n p (get_or text p 0) g))
+within_end : (s : State) → Within s → (i n p : ℕ) (g : Goal) → finish (quoting s i n p g) p ≡ None
+within_end s q i n p g = grind arith
 
-  quote_stop : (s : State) → Within s → (i n p : ℕ) (g : Goal) → p < length text → moved s (class (get_or text p 0)) ≡ None → onward m text (quoting s i n p g) p ≡ refused UnexpectedByte p
-  quote_stop s q i n p g lt e = moves m text _ p stop lt (subst (λ o. Next o (step (quoting s i n p g) p (get_or text p 0)) i n p g) e (within_next s q i n p (get_or text p 0) g))
+module _ (m : Bool) (text : List ℕ) (s : State) (q : Within s) (i n p : ℕ) (g : Goal) where
+  quote_on : (s' : State) → p < length text → moved s (class (get_or text p 0)) ≡ Some s' → onward m text (quoting s i n p g) p ≡ onward m text (quoting s' i (bump s' n) (p + 1) g) (p + 1)
+  quote_on s' lt e = moves m text (quoting s i n p g) p _ lt (subst (λ o. Next o (step (quoting s i n p g) p (get_or text p 0)) i n p g) e (within_next s q i n p (get_or text p 0) g))
 
-  quote_end : (s : State) → Within s → (i n p : ℕ) (g : Goal) → length text ≤ p → onward m text (quoting s i n p g) p ≡ refused UnexpectedByte p
-  quote_end s (inl e) i n p g ge = ap (λ s. onward m text (quoting s i n p g) p) e ∙ at_end m text _ p ge
-  quote_end s (inr e) i n p g ge = ap (λ s. onward m text (quoting s i n p g) p) e ∙ at_end m text _ p ge
+  quote_stop : (p < length text → moved s (class (get_or text p 0)) ≡ None) → onward m text (quoting s i n p g) p ≡ refused UnexpectedByte p
+  quote_stop e = refuses m text (quoting s i n p g) p (λ lt. subst (λ o. Next o (step (quoting s i n p g) p (get_or text p 0)) i n p g) (e lt) (within_next s q i n p (get_or text p 0) g)) (within_end s q i n p g)
 
 -- inside a text constant that began at i, with n bytes; r₀ is the cursor behind its first quote
 pub record Quoting (i : ℕ) (r₀ r : Cursor) (n : ℕ) : Type 0 where
@@ -230,25 +174,8 @@ start_digit b e = grind (arith, nat_tests)
 -- a number constant's first digit
 pub digit_first : (text : List ℕ) (p : ℕ) → start_at text p ≡ at.Digit → (p < length text) × (48 ≤ get_or text p 0)
 digit_first text p e =
-    let lt : p < length text = start_inside text p (λ other. cc) in
-    (lt, start_digit (get_or text p 0) (sym (ap start_of (slice_get-get_or text p 0 lt)) ∙ e))
-
--- digits stand inside an instruction
-pub digit_inner : (b : ℕ) → digit_value b < 16 → Inner b
-digit_inner b h = grind (arith, nat_tests)
-
-start_inner : (b : ℕ) → start b ≡ at.Digit → Inner b
-start_inner b e = grind (arith, nat_tests)
-
-pub digit_passes : (text : List ℕ) (p : ℕ) → digit_at text p < 16 → (p < length text) × Inner (get_or text p 0)
-digit_passes text p h =
-    let lt = digit_inside text p h in
-    (lt, digit_inner (get_or text p 0) (omega (arith, digit_here text p lt)))
-
-pub start_passes : (text : List ℕ) (p : ℕ) → start_at text p ≡ at.Digit → (p < length text) × Inner (get_or text p 0)
-start_passes text p e =
-    let lt : p < length text = start_inside text p (λ other. cc) in
-    (lt, start_inner (get_or text p 0) (sym (ap start_of (slice_get-get_or text p 0 lt)) ∙ e))
+    let h = start_is text p at.Digit (λ other. cc) e in
+    (h.0, start_digit (get_or text p 0) h.1)
 
 start_quote : (b : ℕ) → start b ≡ at.Quote → class b ≡ is.Quote
 start_quote b e = grind (arith, nat_tests)
@@ -256,8 +183,8 @@ start_quote b e = grind (arith, nat_tests)
 -- a text constant's first quote
 quote_here : (text : List ℕ) (p : ℕ) → start_at text p ≡ at.Quote → (p < length text) × (class (get_or text p 0) ≡ is.Quote)
 quote_here text p e =
-    let lt : p < length text = start_inside text p (λ other. cc) in
-    (lt, start_quote (get_or text p 0) (sym (ap start_of (slice_get-get_or text p 0 lt)) ∙ e))
+    let h = start_is text p at.Quote (λ other. cc) e in
+    (h.0, start_quote (get_or text p 0) h.1)
 
 some_path : (s s' : State) → Some s ≡ Some s' → s ≡ s'
 some_path s s' e = cc
@@ -286,16 +213,16 @@ quoting_begins r₀ f r inward begins took =
 
 -- what the machine takes or refuses, read in another reference to the same text
 taken_in : (r r' : Cursor) (t : Bor (List ℕ)) → r.text ≡ t → Taken r (Ok tt) r' → (r.pos < length t.now) × (moved r.state (class (get_or t.now r.pos 0)) ≡ Some r'.state)
-taken_in r r' t e took = subst (λ (t : Bor (List ℕ)). (r.pos < length t.now) × (moved r.state (class (get_or t.now r.pos 0)) ≡ Some r'.state)) e (took.0, took.1)
+taken_in r r' t e took = there (λ t. (r.pos < length t) × (moved r.state (class (get_or t r.pos 0)) ≡ Some r'.state)) e (took.0, took.1)
 
 refused_in : (r r' : Cursor) (f : Fault) (t : Bor (List ℕ)) → r.text ≡ t → Taken r (Err f) r' → r.pos < length t.now → moved r.state (class (get_or t.now r.pos 0)) ≡ None
-refused_in r r' f t e took = subst (λ (t : Bor (List ℕ)). r.pos < length t.now → moved r.state (class (get_or t.now r.pos 0)) ≡ None) e took.1
+refused_in r r' f t e took = there (λ t. r.pos < length t → moved r.state (class (get_or t r.pos 0)) ≡ None) e took.1
 
 -- one byte more: the runs, in the state after it
 quoting_on : (i n : ℕ) (r₀ r r' : Cursor) → Quoting i r₀ r n → Taken r (Ok tt) r' → (g : Goal) → onward true r₀.text.now (in_text i 0 g) (i + 1) ≡ onward true r₀.text.now (quoting r'.state i (bump r'.state n) r'.pos g) r'.pos
 quoting_on i n r₀ r r' q took g =
     let h = taken_in r r' r₀.text q.text took in
-    q.runs g ∙ quote_on true r₀.text.now r.state r'.state q.within i n r.pos g h.0 h.1 ∙ ap (λ p. onward true r₀.text.now (quoting r'.state i (bump r'.state n) p g) p) (sym took.2.pos)
+    q.runs g ∙ quote_on true r₀.text.now r.state q.within i n r.pos g r'.state h.0 h.1 ∙ ap (λ p. onward true r₀.text.now (quoting r'.state i (bump r'.state n) p g) p) (sym took.2.pos)
 
 pub quoting_more : (i n : ℕ) (r₀ r r' : Cursor) → Quoting i r₀ r n → Taken r (Ok tt) r' → Within r'.state → (n' : ℕ) → n' ≡ bump r'.state n → n' ≤ n + 1 → Quoting i r₀ r' n'
 quoting_more i n r₀ r r' q took s n' e le =
@@ -310,9 +237,9 @@ quoting_more i n r₀ r r' q took s n' e le =
 -- r₁ is where the constant begins, r₀ behind its first quote
 pub quoting_stop : (n : ℕ) (r₁ r₀ r : Cursor) (f : Fault) (r' : Cursor) → r₀.text ≡ r₁.text → Quoting r₁.pos r₀ r n → Taken r (Err f) r' → (g : Goal) → onward true r₁.text.now (in_text r₁.pos 0 g) (r₁.pos + 1) ≡ refused f.refusal f.place
 quoting_stop n r₁ r₀ r f r' same q took g =
-    subst (λ (t : Bor (List ℕ)). onward true t.now (in_text r₁.pos 0 g) (r₁.pos + 1) ≡ refused f.refusal f.place) same
+    there (λ t. onward true t (in_text r₁.pos 0 g) (r₁.pos + 1) ≡ refused f.refusal f.place) same
     (q.runs g
-    ∙ ⊎_elim (λ lt. quote_stop true r₀.text.now r.state q.within r₁.pos n r.pos g lt (refused_in r r' f r₀.text q.text took lt)) (λ ge. quote_end true r₀.text.now r.state q.within r₁.pos n r.pos g ge) (cases_lt r.pos (length r₀.text.now))
+    ∙ quote_stop true r₀.text.now r.state q.within r₁.pos n r.pos g (refused_in r r' f r₀.text q.text took)
     ∙ as_refused f UnexpectedByte r.pos took.0)
 
 -- after the last quote; r₁ is where the constant begins, r₀ behind its first quote
@@ -327,15 +254,14 @@ quoting_last n r₁ r₀ r r' same table q took no_text no_escape =
       table = took.2.table ∙ q.table ∙ table;
       onwards = omega (arith, q.far, took.2.pos);
       few = omega (arith, q.far, took.2.pos);
-      runs = λ g. subst (λ (t : Bor (List ℕ)). onward true t.now (in_text r₁.pos 0 g) (r₁.pos + 1) ≡ onward true t.now (quoted (record { span = from_to r₁.pos r'.pos; bytes = n }) g) r'.pos) same (quoting_on r₁.pos n r₀ r r' q took g ∙ ap (λ s. onward true r₀.text.now (quoting s r₁.pos (bump s n) r'.pos g) r'.pos) s);
+      runs = λ g. there (λ t. onward true t (in_text r₁.pos 0 g) (r₁.pos + 1) ≡ onward true t (quoted (record { span = from_to r₁.pos r'.pos; bytes = n }) g) r'.pos) same (quoting_on r₁.pos n r₀ r r' q took g ∙ ap (λ s. onward true r₀.text.now (quoting s r₁.pos (bump s n) r'.pos g) r'.pos) s);
     }
   where
     last : (s s' : State) (cl : Class) → Within s → moved s cl ≡ Some s' → (s' ≡ Text → ⊥) → (s' ≡ Escape → ⊥) → s' ≡ Instruction
-    last s s' cl (inl is) e a b = grind arith
-    last s s' cl (inr is) e a b = grind arith
+    last s s' cl q e a b = grind arith
 
--- what comes out of a `?`
-pub quoted_break : (r r' : Cursor) (o : Result Quote Fault) (f : Fault) → IsErrAnd o (λ y. y ≡ f) → ((g : Goal) → onward true r.text.now (in_text r.pos 0 g) (r.pos + 1) ≡ refused f.refusal f.place) → Quoted r o r'
-quoted_break r r' o f e h =
+-- what comes out of a `?`, for any promise P of the answer
+pub by_break : {A : Type 0} (P : Result A Fault → Type 0) (o : Result A Fault) (f : Fault) → IsErrAnd o (λ y. y ≡ f) → P (Err f) → P o
+by_break P o f e h =
     let p = err_from_is_err_and o e in
-    subst (λ o. Quoted r o r') (sym p.1) (λ g. h g ∙ ap (λ (f : Fault). refused f.refusal f.place) (sym p.2))
+    subst P (sym p.1) (subst (λ (f : Fault). P (Err f)) (sym p.2) h)

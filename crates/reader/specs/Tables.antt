@@ -34,5 +34,6 @@ pub record Holds (t : Table) (ns : List Node) : Type 0 where
   pub kept : take (length ns) t.slots ≡ take 2048 ns
 
 -- from t to t' the nodes ns have come to what the table holds
-abbrev pub Grew : Table → List Node → Table → Type 0
-Grew t ns t' = (old : List Node) → Holds t old → Holds t' (old ++ ns)
+pub record Grew (t : Table) (ns : List Node) (t' : Table) : Type 0 where
+  pub longer : t'.len ≡ t.len + length ns
+  pub holds : (old : List Node) → Holds t old → Holds t' (old ++ ns)
