@@ -1,5 +1,6 @@
 use Rattle.std.proofs.Common.{◌∙◌, arith}
-use Rattle.reader.proofs.Leaves.{digiting_more, digit_passes}
+use Rattle.reader.proofs.Places.{digit_passed}
+use Rattle.reader.proofs.Leaves.{digiting_more}
 use Rattle.reader.proofs.cursor.Cursor.digits.Goals as goal
 
 pub loop-digit-preserved : goal.loop-digit-preserved
@@ -9,6 +10,4 @@ loop-digit-preserved c =
 
 pub pass-requires : goal.pass-requires
 pass-requires c =
-    let r = c.loop-digit.self in
-    let p = digit_passes r.text.now r.pos (omega (arith, c.in-Some.ensures.0)) in
-    (p.0, (c.loop-digit.invariant.same.state ∙ c.requires.1, p.1))
+    digit_passed c.loop-digit.self (c.loop-digit.invariant.same.state ∙ c.requires.1) (omega (arith, c.in-Some.ensures.0))

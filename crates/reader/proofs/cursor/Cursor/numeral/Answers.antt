@@ -2,7 +2,9 @@ use Rattle.std.proofs.Common.{◌≡◌, ◌+◌, ◌<◌, ◌≤◌, true, sym,
 use Rattle.refusals.specs.declared.Refusal.TheVariants.{UnexpectedByte}
 use Rattle.reader.specs.States.{fault, MovedTo}
 use Rattle.reader.specs.Scans.{prefixed_at, digit_at}
-use Rattle.reader.proofs.Leaves.{as_refused, digit_first, at_place, moved_more, no_digit, a_digit, decimal_first, octal_first, hexadecimal_first, hexadecimal_stop, numeral_read, start_passes}
+use Rattle.reader.proofs.Leaves.{as_refused, digit_first, no_digit, a_digit, decimal_first, octal_first, hexadecimal_first, hexadecimal_stop, numeral_read}
+use Rattle.reader.proofs.Places.{start_passed, at_place}
+use Rattle.reader.proofs.Passing.{moved_more}
 use Rattle.reader.proofs.cursor.Cursor.numeral.Goals as goal
 use Rattle.reader.proofs.cursor.Cursor.numeral.Goals.{then-first-ne48, else-first-ne48+then-is_prefixed+else-is_none, else-first-ne48+else-is_prefixed}
 
@@ -39,4 +41,4 @@ returns c =
     ]
 
 pub pass-requires : goal.pass-requires
-pass-requires c = let p = start_passes c.args.self.now.text.now c.args.self.now.pos c.requires.1 in (p.0, (c.requires.0.inward, p.1))
+pass-requires c = start_passed c.args.self.now c.requires.0.inward c.requires.1 (λ q. cc) (λ o. cc)

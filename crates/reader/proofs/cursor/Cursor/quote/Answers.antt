@@ -1,5 +1,6 @@
 use Rattle.std.proofs.Common.{sym, ap, inl, inr, arith}
-use Rattle.reader.proofs.Leaves.{bump, quoting_begins, quoting_first, quoting_more, quoting_stop, quoting_last, quoted_break}
+use Rattle.reader.specs.Scans.{Quoted}
+use Rattle.reader.proofs.Leaves.{bump, quoting_begins, quoting_first, quoting_more, quoting_stop, quoting_last, by_break}
 use Rattle.reader.proofs.cursor.Cursor.quote.Goals as goal
 
 pub loop-bytes-init : goal.loop-bytes-init
@@ -10,7 +11,7 @@ returns-in_err-take c = absurd (quoting_begins c.args.self.now _ c.take.new.self
 
 pub returns-in_err-take-2 : goal.returns-in_err-take-2
 returns-in_err-take-2 c =
-    quoted_break _ _ _ _ c.from_residual-in_err-take-2.ensures.1 (quoting_stop _ c.args.self.now _ _ _ c.take-in-loop-bytes.new.self c.in_ok-take.ensures.2.text c.loop-bytes.invariant c.in_err-take-2.ensures)
+    by_break (λ o. Quoted c.args.self.now o c.take-in-loop-bytes.new.self) _ _ c.from_residual-in_err-take-2.ensures.1 (quoting_stop _ c.args.self.now _ _ _ c.take-in-loop-bytes.new.self c.in_ok-take.ensures.2.text c.loop-bytes.invariant c.in_err-take-2.ensures)
 
 pub loop-bytes-preserved-in-Text : goal.loop-bytes-preserved-in-Text
 loop-bytes-preserved-in-Text c =

@@ -21,11 +21,10 @@ use Rattle.trees.specs.declared.Node.TheVariants as node
 use Rattle.trees.specs.Tree.{Key, Expr, Args, Seq, count_args, from_to}
 use Rattle.trees.specs.Flat.{flatten, flatten_args, flatten_seq, rest}
 use Rattle.trees.specs.Counts.{need, need_args, need_list}
-use Rattle.grammar.specs.Machine
-use Rattle.grammar.specs.Machine.{Head, Stack, Bracket, Run, Config, Move, stop, want, named, aft, dots, last_wanted, depth, constant, constant_at, dotted, commanded, onward, refused, keyword_of}
+use Rattle.grammar.specs.Machine.{Head, Stack, Bracket, Run, Config, stop, want, named, aft, dots, last_wanted, depth, constant, constant_at, dotted, commanded, assigns, onward, refused, Below}
+use Rattle.grammar.specs.Words.{keyword_of}
 use Rattle.grammar.specs.Grammar.{Blanks, part}
 use Rattle.grammar.specs.Rules.{Broken, refusal_of, large, lengthy, arrival}
-use Rattle.grammar.proofs.Moves.{Below}
 use Rattle.reader.specs.declared.cursor.Cursor.{Cursor}
 use Rattle.reader.specs.declared.cursor.Inside.{Inside}
 use Rattle.reader.specs.declared.cursor.Inside.TheVariants as inside
@@ -117,6 +116,14 @@ abbrev pub Placed : Option Constant → ℕ → Type 0
 Placed (Some c) p = c.span.«from» ≤ p
 Placed None p = Unit {0}
 
+-- no letter stands at p behind blanks
+abbrev pub Unlettered : List ℕ → ℕ → Type 0
+Unlettered text p = (q : ℕ) → Blanks text p q → start_at text q ≢ at.Letter
+
+-- the expression is no key: a `=` behind it does not assign
+abbrev pub Keyless : Expr → Type 0
+Keyless t = (k : Stack) (b q : ℕ) → assigns t k b q ≡ stop
+
 -- an operand is read
 pub record Took (text : List ℕ) (fits : Stack → Type 0) (c : Stack → Config) (r : Cursor) (o : Operand) (r' : Cursor) : Type 0 where
   pub tree : Expr
@@ -124,6 +131,7 @@ pub record Took (text : List ℕ) (fits : Stack → Type 0) (c : Stack → Confi
   pub placed : Placed o.constant r'.pos
   pub small : o.need + r.pos ≤ r'.pos
   pub far : r.pos < r'.pos
+  pub keyless : Unlettered text r.pos → Keyless tree
   pub went : Went r (flatten tree) r'
   pub runs : Runs text fits c r.pos (λ k. aft tree k) r'.pos
 
@@ -152,6 +160,7 @@ pub record Chain (text : List ℕ) (n : ℕ) (x : Context) (first : Operand) (r 
   pub placed : Placed first.constant r.pos → Placed o.constant r'.pos
   pub small : (o.need ≤ first.need) ⊎ (o.need + r.pos ≤ r'.pos)
   pub flat : (t : Expr) → flatten (grow t) ≡ flatten t ++ nodes
+  pub still : ((r'.pos ≡ r.pos) × ((t : Expr) → grow t ≡ t)) ⊎ ((t : Expr) → Keyless (grow t))
   pub went : Went r nodes r'
   pub runs : (t : Expr) → Runs text (Fitting n x) (λ k. aft t k) r.pos (λ k. aft (grow t) k) r'.pos
 
@@ -315,6 +324,7 @@ pub record Grows (text : List ℕ) (empty : Bool) (base : ℕ) (start : ℕ → 
   pub flat : (s : Seq) → is_empty s ≡ empty → flatten_seq (grow s) ≡ flatten_seq s ++ nodes
   pub some : (s : Seq) → is_empty (grow s) ≡ false
   pub told : (s : Seq) → base ≤ need_list s → need_list (grow s) ≡ max (need_list s) g.need
+  pub least : base ≤ g.need
   pub small : (g.need ≤ base) ⊎ (g.need + r.pos ≤ r'.pos)
   pub far : r.pos < r'.pos
   pub went : Went r nodes r'

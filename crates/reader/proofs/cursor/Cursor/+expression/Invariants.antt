@@ -1,10 +1,16 @@
 -- The room that is left falls at each bracket; below that, the level rises from operator to operand.
-use Rattle.std.proofs.Common.{ℕ, ◌+◌, ◌-◌, ◌*◌, length}
+use Rattle.std.proofs.Common.{◌+◌, ◌-◌, ◌*◌, length}
 use Rattle.tokens.specs.Operators.{level}
-use Rattle.reader.proofs.cursor.Cursor.+arguments_call_group_item_items_list_long_name_operand_operators_primary_round_short_signed_subscript_tail.Given as goal
+use Rattle.reader.proofs.Joins.{Tailing}
+use Rattle.reader.proofs.cursor.Cursor.+expression.Given as goal
+use Rattle.reader.proofs.Opens.{Arguing}
+use Rattle.reader.proofs.Seqs.{Itemizing, Grouped}
 
 abbrev pub decreases-arguments : goal.decreases-arguments
 decreases-arguments l = 64 * l.context.left + 53
+
+abbrev pub decreases-arguments-loop-argument : goal.decreases-arguments-loop-argument
+decreases-arguments-loop-argument l = length l.initial.self.text.now - l.self.pos
 
 abbrev pub decreases-call : goal.decreases-call
 decreases-call l = 64 * l.context.left + 2
@@ -18,8 +24,14 @@ decreases-item l = 64 * l.context.left + 53
 abbrev pub decreases-items : goal.decreases-items
 decreases-items l = 64 * l.context.left + 54
 
+abbrev pub decreases-items-loop-item : goal.decreases-items-loop-item
+decreases-items-loop-item l = length l.initial.self.text.now - l.self.pos
+
 abbrev pub decreases-list : goal.decreases-list
 decreases-list l = 64 * l.context.left + 3
+
+abbrev pub decreases-list-loop-group : goal.decreases-list-loop-group
+decreases-list-loop-group l = length l.initial.self.text.now - l.self.pos
 
 abbrev pub decreases-long : goal.decreases-long
 decreases-long l = 64 * l.context.left + (54 - 4 * level l.op)
@@ -50,3 +62,18 @@ decreases-subscript l = 64 * l.context.left + 2
 
 abbrev pub decreases-tail : goal.decreases-tail
 decreases-tail l = 64 * l.context.left + (55 - 4 * l.level)
+
+abbrev pub decreases-tail-loop-op : goal.decreases-tail-loop-op
+decreases-tail-loop-op l = length l.initial.self.text.now - l.self.pos
+
+abbrev pub invariant-arguments-loop-argument : goal.invariant-arguments-loop-argument
+invariant-arguments-loop-argument l = Arguing l.context.left l.initial.self l.count l.need l.self
+
+abbrev pub invariant-items-loop-item : goal.invariant-items-loop-item
+invariant-items-loop-item l = Itemizing l.context.left l.initial.need l.initial.self l.need l.self
+
+abbrev pub invariant-list-loop-group : goal.invariant-list-loop-group
+invariant-list-loop-group l = Grouped l.inner.left l.initial.self l.need l.empty l.self
+
+abbrev pub invariant-tail-loop-op : goal.invariant-tail-loop-op
+invariant-tail-loop-op l = Tailing l.level l.context l.initial.operand l.initial.self l.operand l.self

@@ -78,13 +78,15 @@ pub struct Group {
     pub more: bool,
 }
 
-// An operand that is no constant.
-pub(crate) fn computed(need: usize) -> Operand
-    ensures { result ≡ record { need = need; constant = None } }
-{
-    Operand {
-        need,
-        constant: None,
+impl Operand {
+    // One that is no constant.
+    pub(crate) fn computed(need: usize) -> Operand
+        ensures { result ≡ record { need = need; constant = None } }
+    {
+        Operand {
+            need,
+            constant: None,
+        }
     }
 }
 
@@ -209,11 +211,11 @@ impl Cursor<'_> {
         self.table.push(Node::Text {
             span: quote.span.narrow(),
         });
-        Ok(computed(1))
+        Ok(Operand::computed(1))
     }
 
     // Operands and operators of the level and tighter.
-    #[cycle(arguments_call_group_item_items_list_long_name_operand_operators_primary_round_short_signed_subscript_tail)]
+    #[cycle(expression)]
     pub(crate) fn operators(&mut self, context: Context, level: u8) -> Result<Operand, Fault>
         requires { (Ready self.old) × ((1 ≤ level) × (level ≤ 11)) }
         ensures did { Did self.old.text.now (Wanting self.old.text.now self.old.pos level context) want self.old result self.new }
@@ -225,7 +227,7 @@ impl Cursor<'_> {
     }
 
     // The operators of the level and tighter that follow the first operand, with their right sides.
-    #[cycle(arguments_call_group_item_items_list_long_name_operand_operators_primary_round_short_signed_subscript_tail)]
+    #[cycle(expression)]
     pub(crate) fn tail(
         &mut self,
         context: Context,
@@ -243,13 +245,13 @@ impl Cursor<'_> {
             } else {
                 self.long(context, op)?
             };
-            operand = computed(operand.need.max(right));
+            operand = Operand::computed(operand.need.max(right));
         }
         Ok(operand)
     }
 
     // `&&` or `||` and its right side: the stack that this needs beside the left one.
-    #[cycle(arguments_call_group_item_items_list_long_name_operand_operators_primary_round_short_signed_subscript_tail)]
+    #[cycle(expression)]
     fn short(&mut self, context: Context, op: Op) -> Result<usize, Fault>
         requires { (Ready self.old) × ((token_at self.old.text.now self.old.pos ≡ Some op) × (is_short op ≡ true)) }
         ensures did { Joined self.old.text.now op context self.old result self.new }
@@ -267,7 +269,7 @@ impl Cursor<'_> {
     }
 
     // Any other operator and its right side.
-    #[cycle(arguments_call_group_item_items_list_long_name_operand_operators_primary_round_short_signed_subscript_tail)]
+    #[cycle(expression)]
     fn long(&mut self, context: Context, op: Op) -> Result<usize, Fault>
         requires { (Ready self.old) × ((token_at self.old.text.now self.old.pos ≡ Some op) × (is_short op ≡ false)) }
         ensures did { Joined self.old.text.now op context self.old result self.new }
@@ -281,7 +283,7 @@ impl Cursor<'_> {
     }
 
     // A primary, with a sign or without.
-    #[cycle(arguments_call_group_item_items_list_long_name_operand_operators_primary_round_short_signed_subscript_tail)]
+    #[cycle(expression)]
     fn operand(&mut self, context: Context) -> Result<Operand, Fault>
         requires { Ready self.old }
         ensures { Did self.old.text.now (Wanting self.old.text.now self.old.pos 11 context) want self.old result self.new }
@@ -293,7 +295,7 @@ impl Cursor<'_> {
         }
     }
 
-    #[cycle(arguments_call_group_item_items_list_long_name_operand_operators_primary_round_short_signed_subscript_tail)]
+    #[cycle(expression)]
     fn signed(&mut self, context: Context, sign: Sign) -> Result<Operand, Fault>
         requires { (Ready self.old) × (start_at self.old.text.now self.old.pos ≡ Start.Sign sign) }
         ensures { Did self.old.text.now (Fitting 11 context) want self.old result self.new }
@@ -306,10 +308,10 @@ impl Cursor<'_> {
         }
         let operand = self.primary(context)?;
         self.table.push(Node::Signed { place, sign });
-        Ok(computed(operand.need))
+        Ok(Operand::computed(operand.need))
     }
 
-    #[cycle(arguments_call_group_item_items_list_long_name_operand_operators_primary_round_short_signed_subscript_tail)]
+    #[cycle(expression)]
     fn primary(&mut self, context: Context) -> Result<Operand, Fault>
         requires { (Ready self.old) × (Primal (start_at self.old.text.now self.old.pos)) }
         ensures { Did self.old.text.now (Wanting self.old.text.now self.old.pos 12 context) want self.old result self.new }
@@ -325,7 +327,7 @@ impl Cursor<'_> {
     }
 
     // An expression in parentheses, at its `(`.
-    #[cycle(arguments_call_group_item_items_list_long_name_operand_operators_primary_round_short_signed_subscript_tail)]
+    #[cycle(expression)]
     fn round(&mut self, context: Context) -> Result<Operand, Fault>
         requires { (Ready self.old) × (start_at self.old.text.now self.old.pos ≡ Start.Round) }
         ensures { Did self.old.text.now (Fitting 12 context) want self.old result self.new }
@@ -334,11 +336,11 @@ impl Cursor<'_> {
         self.pass();
         let held = self.operators(inner, 1)?;
         self.close(Shape::Round)?;
-        Ok(computed(held.need))
+        Ok(Operand::computed(held.need))
     }
 
     // A name, with its subscript or its arguments if it has any.
-    #[cycle(arguments_call_group_item_items_list_long_name_operand_operators_primary_round_short_signed_subscript_tail)]
+    #[cycle(expression)]
     fn name(&mut self, context: Context) -> Result<Operand, Fault>
         requires { (Ready self.old) × (start_at self.old.text.now self.old.pos ≡ Start.Letter) }
         ensures { Did self.old.text.now (Wanting self.old.text.now self.old.pos 12 context) want self.old result self.new }
@@ -351,20 +353,20 @@ impl Cursor<'_> {
                 self.table.push(Node::Index {
                     span: name.narrow(),
                 });
-                Ok(computed(need))
+                Ok(Operand::computed(need))
             }
             After::Round => self.call(name, context),
             _ => {
                 self.table.push(Node::Name {
                     span: name.narrow(),
                 });
-                Ok(computed(1))
+                Ok(Operand::computed(1))
             }
         }
     }
 
     // The subscript of a name, at its `[`: the stack that it needs.
-    #[cycle(arguments_call_group_item_items_list_long_name_operand_operators_primary_round_short_signed_subscript_tail)]
+    #[cycle(expression)]
     pub(crate) fn subscript(&mut self, context: Context) -> Result<usize, Fault>
         requires { (Ready self.old) × (after_at self.old.text.now self.old.pos ≡ After.Square) }
         ensures { Subscribed self.old.text.now context.left self.old result self.new }
@@ -377,7 +379,7 @@ impl Cursor<'_> {
     }
 
     // The call of the function whose name stands there, at its `(`.
-    #[cycle(arguments_call_group_item_items_list_long_name_operand_operators_primary_round_short_signed_subscript_tail)]
+    #[cycle(expression)]
     pub(crate) fn call(&mut self, name: Span, context: Context) -> Result<Operand, Fault>
         requires { (Ready self.old) × ((after_at self.old.text.now self.old.pos ≡ After.Round) × ((name.«from» ≤ name.to) × (name.to ≤ self.old.pos))) }
         ensures { Called self.old.text.now name.«from» name.to context.left self.old result self.new }
@@ -405,11 +407,11 @@ impl Cursor<'_> {
             function: signature.function,
             arguments: arguments.count as u16,
         });
-        Ok(computed(arguments.need))
+        Ok(Operand::computed(arguments.need))
     }
 
     // The arguments of a call, up to its `)`.
-    #[cycle(arguments_call_group_item_items_list_long_name_operand_operators_primary_round_short_signed_subscript_tail)]
+    #[cycle(expression)]
     fn arguments(&mut self, context: Context) -> Result<Arguments, Fault>
         requires { (Ready self.old) × (context.inside ≡ Call) }
         ensures { Argued self.old.text.now context.left self.old result self.new }
@@ -429,7 +431,7 @@ impl Cursor<'_> {
     }
 
     // A list, at its `{`.
-    #[cycle(arguments_call_group_item_items_list_long_name_operand_operators_primary_round_short_signed_subscript_tail)]
+    #[cycle(expression)]
     fn list(&mut self, context: Context) -> Result<Operand, Fault>
         requires { (Ready self.old) × (start_at self.old.text.now self.old.pos ≡ Start.Curly) }
         ensures { Did self.old.text.now (Fitting 12 context) want self.old result self.new }
@@ -441,7 +443,7 @@ impl Cursor<'_> {
         if matches!(self.start(), Start::EndCurly) {
             self.pass();
             self.table.push(Node::Empty { place });
-            return Ok(computed(1));
+            return Ok(Operand::computed(1));
         }
         let mut need: usize = 1;
         let mut empty = true;
@@ -454,11 +456,11 @@ impl Cursor<'_> {
             }
         }
         self.table.push(Node::List { place });
-        Ok(computed(need))
+        Ok(Operand::computed(need))
     }
 
     // A group of a list, with the `;` or `}` behind it. `empty` tells that no item stands before it.
-    #[cycle(arguments_call_group_item_items_list_long_name_operand_operators_primary_round_short_signed_subscript_tail)]
+    #[cycle(expression)]
     fn group(&mut self, context: Context, empty: bool) -> Result<Group, Fault>
         requires { (Ready self.old) × (context.inside ≡ Curly) }
         ensures { Continued self.old.text.now context.left empty 0 0 self.old result self.new }
@@ -486,7 +488,7 @@ impl Cursor<'_> {
     }
 
     // An item of a list, joined to those before it; its need is counted with the list's own.
-    #[cycle(arguments_call_group_item_items_list_long_name_operand_operators_primary_round_short_signed_subscript_tail)]
+    #[cycle(expression)]
     fn item(&mut self, context: Context, empty: bool) -> Result<Operand, Fault>
         requires { Ready self.old }
         ensures did { Itemed self.old.text.now context empty self.old result self.new }
@@ -503,7 +505,7 @@ impl Cursor<'_> {
     }
 
     // Further items of a group, behind the second one and its comma, with the `;` or `}` behind them.
-    #[cycle(arguments_call_group_item_items_list_long_name_operand_operators_primary_round_short_signed_subscript_tail)]
+    #[cycle(expression)]
     fn items(&mut self, context: Context, need: usize) -> Result<Group, Fault>
         requires { (Ready self.old) × ((context.inside ≡ Curly) × ((need ≤ self.old.pos) × ((Solid self.old.text.now self.old.pos) × ((start_at self.old.text.now self.old.pos ≢ Start.Dot))))) }
         ensures { Continued self.old.text.now context.left false need 2 self.old result self.new }
@@ -541,7 +543,7 @@ impl Cursor<'_> {
 
     // Passes the `;` or `}` behind the last item of a group.
     fn end_group(&mut self, need: usize) -> Result<Group, Fault>
-        requires { Ready self.old }
+        requires { self.old.state ≡ Instruction }
         ensures { Ended self.old.text.now need self.old result self.new }
     {
         let more = self.group_end().ok_or(self.unexpected())?;
