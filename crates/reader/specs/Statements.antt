@@ -1,16 +1,17 @@
 -- What the functions say that read instructions without a block. Assumes nothing.
-use Rattle.std.specs.Prelude.{◌≡◌, ℕ, ◌+◌, ◌-◌, ◌<◌, ◌≤◌, max, Bool, true, false, cond, not, ◌&&◌, List, [], ◌∷◌, ◌++◌, length, Some, None, Option, Ok, Err, Result, ◌==◌, ◌≢◌, slice_get, slice_index}
+use Rattle.std.specs.Prelude.{◌≡◌, ℕ, ◌+◌, ◌<◌, ◌≤◌, Bool, true, false, not, ◌&&◌, ◌⊎◌, List, [], ◌∷◌, ◌++◌, length, Some, None, Option, Ok, Err, Result, ◌==◌, ◌≢◌, slice_get, slice_index}
 use Rattle.refusals.specs.declared.Refusal.TheVariants.{UnexpectedByte}
 use Rattle.tokens.specs.declared.byte.After.{After}
 use Rattle.tokens.specs.declared.byte.After.TheVariants as past
 use Rattle.tokens.specs.declared.operator.Half.TheVariants as halved
 use Rattle.trees.specs.declared.Node.{Node}
 use Rattle.trees.specs.declared.Node.TheVariants as node
-use Rattle.trees.specs.Tree.{Key, Expr, Opening, Item, Items, from_to}
+use Rattle.trees.specs.Tree.{Key, Expr, Item, Items, from_to}
 use Rattle.trees.specs.Flat.{flatten, flatten_target, assign_node}
 use Rattle.trees.specs.Counts.{need, need_assign}
 use Rattle.tokens.specs.Bytes.{word}
-use Rattle.grammar.specs.Machine.{keyword_of, Head, Stack, Config, want, in_name, named, aft, plain, onward, refused}
+use Rattle.grammar.specs.Machine.{Head, Stack, Config, want, in_name, named, aft, plain, onward, refused}
+use Rattle.grammar.specs.Words.{keyword_of}
 use Rattle.grammar.specs.Grammar.{part}
 use Rattle.reader.specs.declared.cursor.Cursor.{Cursor}
 use Rattle.reader.specs.declared.cursor.State.TheVariants.{Plain}
@@ -21,7 +22,7 @@ use Rattle.reader.specs.Tables.{Table}
 use Rattle.reader.specs.Tables.{Grew}
 use Rattle.reader.specs.States.{fault, Onwards}
 use Rattle.reader.specs.Scans.{after_at, unexpected_at, Spaced, Ready}
-use Rattle.reader.specs.Reads.{operand_of, Stops}
+use Rattle.reader.specs.Reads.{operand_of, Solid, Stops, Keyless}
 
 -- the `=` of an assignment: no `=` stands behind it
 abbrev pub is_equals : After → Bool
@@ -172,7 +173,7 @@ pub record Shown (text : List ℕ) (i : Statement) (n : ℕ) (r : Cursor) (m : �
 
 abbrev pub Shows : List ℕ → Statement → ℕ → Cursor → Result ℕ Fault → Cursor → Type 0
 Shows text i n r (Ok m) r' = Shown text i n r m r'
-Shows text i n r (Err f) r' = (ts : Items) (e : Expr) → Stops 1 text r.pos → onward true text (aft e (Stack.top i.place Head.show ts)) r.pos ≡ refused f.refusal f.place
+Shows text i n r (Err f) r' = (ts : Items) (e : Expr) → Stops 1 text r.pos → (assigns_at text r.pos ≡ true → Keyless e) → onward true text (aft e (Stack.top i.place Head.show ts)) r.pos ≡ refused f.refusal f.place
 
 -- the expression goes on behind its first operand
 pub record Continued (text : List ℕ) (i : Statement) (first : Operand) (r : Cursor) (m : ℕ) (r' : Cursor) : Type 0 where
@@ -185,7 +186,7 @@ pub record Continued (text : List ℕ) (i : Statement) (first : Operand) (r : Cu
 
 abbrev pub Continues : List ℕ → Statement → Operand → Cursor → Result ℕ Fault → Cursor → Type 0
 Continues text i x r (Ok m) r' = Continued text i x r m r'
-Continues text i x r (Err f) r' = (ts : Items) (e : Expr) → onward true text (aft e (Stack.top i.place Head.show ts)) r.pos ≡ refused f.refusal f.place
+Continues text i x r (Err f) r' = (ts : Items) (e : Expr) → (Solid text r.pos × (assigns_at text r.pos ≡ false)) ⊎ Keyless e → onward true text (aft e (Stack.top i.place Head.show ts)) r.pos ≡ refused f.refusal f.place
 
 -- the right side of an assignment to the key k, whose subscript has s nodes
 pub record Assigned (text : List ℕ) (i : Statement) (s x y : ℕ) (r : Cursor) (m : ℕ) (r' : Cursor) : Type 0 where

@@ -1,5 +1,5 @@
 -- What the functions say that read the instructions of blocks. Assumes nothing.
-use Rattle.std.specs.Prelude.{◌≡◌, ℕ, ◌+◌, ◌-◌, ◌<◌, ◌≤◌, Bool, true, false, ◌⊎◌, List, [], ◌∷◌, length, Ok, Err, Result, slice_index}
+use Rattle.std.specs.Prelude.{◌≡◌, ℕ, ◌+◌, ◌<◌, ◌≤◌, Bool, true, false, ◌⊎◌, List, ◌∷◌, length, Ok, Err, Result, slice_index}
 use Rattle.tokens.specs.Bytes.{word}
 use Rattle.trees.specs.declared.Quote.{Quote}
 use Rattle.trees.specs.declared.Span.{Span}
@@ -7,7 +7,7 @@ use Rattle.trees.specs.declared.Node.TheVariants as node
 use Rattle.trees.specs.Tree.{Expr, Opening, Item, Items}
 use Rattle.trees.specs.Flat.{flatten}
 use Rattle.trees.specs.Counts.{need}
-use Rattle.grammar.specs.Machine.{Head, Stack, Config, want, aft, naming, plain, loop_head, onward, refused}
+use Rattle.grammar.specs.Machine.{Head, Stack, want, aft, naming, plain, loop_head, onward, refused}
 use Rattle.reader.specs.declared.cursor.Cursor.{Cursor}
 use Rattle.reader.specs.declared.cursor.Inside.{Inside}
 use Rattle.reader.specs.declared.cursor.Inside.TheVariants as inside

@@ -1,7 +1,6 @@
 use Rattle.std.proofs.Common.{sym, ◌∙◌}
 use Rattle.reader.specs.Scans.{after_at}
-use Rattle.reader.proofs.Leaves.{at_place}
-use Rattle.reader.proofs.Places.{finished, completed}
+use Rattle.reader.proofs.Places.{at_place, finished, completed}
 use Rattle.reader.proofs.cursor.Cursor.complete.Goals as goal
 
 pub returns-in_default : goal.returns-in_default

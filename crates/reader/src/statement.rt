@@ -7,7 +7,7 @@ ghost use Rattle.reader.specs.Reads.{Solid};
 ghost use Rattle.reader.specs.Statements.{assigns_at, Finished, Completed, Simply, shown_at, named_at, keyed_at, Continues, Shows, Assigns, AtName, AtNode, AtEquals, Nameable};
 
 use crate::cursor::{Cursor, Follow, Inside};
-use crate::expression::{Context, LONGEST_NAME, Operand, computed};
+use crate::expression::{Context, LONGEST_NAME, Operand};
 use crate::fault::Fault;
 use tokens::byte::{After, Start};
 use tokens::operator::Half;
@@ -132,7 +132,7 @@ impl Cursor<'_> {
         self.table.push(Node::Name {
             span: name.narrow(),
         });
-        self.continued(statement, computed(1))
+        self.continued(statement, Operand::computed(1))
     }
 
     // A key with a subscript, or such a target, at its `[`.
@@ -151,7 +151,7 @@ impl Cursor<'_> {
         self.table.push(Node::Index {
             span: name.narrow(),
         });
-        self.continued(statement, computed(need))
+        self.continued(statement, Operand::computed(need))
     }
 
     // An expression whose first operand is read.
