@@ -1,10 +1,9 @@
 -- What the reader knows of the open blocks, and what its functions say that read instructions. Assumes nothing.
-use Rattle.std.specs.Prelude.{◌≡◌, ℕ, suc, ◌+◌, ◌-◌, ◌<◌, ◌≤◌, max, Bool, true, false, cond, List, [], ◌∷◌, map, length, Some, Ok, Err, Result, ◌≢◌, nat_lt, slice_index}
+use Rattle.std.specs.Prelude.{◌≡◌, ℕ, suc, ◌+◌, ◌-◌, ◌<◌, ◌≤◌, max, true, cond, List, [], ◌∷◌, map, length, Some, Ok, Err, Result, ◌≢◌, nat_lt, slice_index}
 use Rattle.trees.specs.Tree.{Item, Items}
 use Rattle.trees.specs.Laid.{laid, loops, head_size, with_body}
 use Rattle.grammar.specs.Rules.{open_blocks}
-use Rattle.grammar.specs.Machine.{Head, Stack, Out, want, plain, commands, onward, refused}
-use Rattle.grammar.proofs.Moves.{reacts}
+use Rattle.grammar.specs.Machine.{Head, Stack, Out, want, plain, commands, onward, refused, reacts}
 use Rattle.keywords.specs.declared.Keyword.{Keyword}
 use Rattle.refusals.specs.declared.Refusal.TheVariants.{UnexpectedByte, UnmatchedBlock}
 use Rattle.stacks.specs.Stacked.{top}

@@ -128,7 +128,8 @@ impl Reader<'_> {
             condition: condition.size,
             body: 0,
         };
-        self.open(Kind::Choice, head, condition)
+        self.open(Kind::Choice, head, condition);
+        Ok(())
     }
 
     fn repeat(&mut self) -> Result<(), Fault>
@@ -143,7 +144,8 @@ impl Reader<'_> {
             condition: condition.size,
             body: 0,
         };
-        self.open(Kind::Repeat, head, condition)
+        self.open(Kind::Repeat, head, condition);
+        Ok(())
     }
 
     fn foreach(&mut self) -> Result<(), Fault>
@@ -160,7 +162,8 @@ impl Reader<'_> {
             list: list.size,
             body: 0,
         };
-        self.open(Kind::Each, head, list)
+        self.open(Kind::Each, head, list);
+        Ok(())
     }
 
     fn joineach(&mut self) -> Result<(), Fault>
@@ -178,14 +181,14 @@ impl Reader<'_> {
             delimiter: delimiter.span.narrow(),
             body: 0,
         };
-        self.open(Kind::Each, head, list)
+        self.open(Kind::Each, head, list);
+        Ok(())
     }
 
     // A block opens: the node of its instruction is put in before its condition.
-    fn open(&mut self, kind: Kind, head: Node, condition: Condition) -> Result<(), Fault>
+    fn open(&mut self, kind: Kind, head: Node, condition: Condition)
         requires { (condition.need ≤ 4096) × ((self.old.loops ≤ 12) × (length self.old.blocks.items < 12)) }
-        ensures done { result ≡ Ok tt }
-        ensures after { Opens self.old kind head condition self.new }
+        ensures { Opens self.old kind head condition self.new }
     {
         self.cursor.patch(condition.at, head);
         self.needs(condition.need);
@@ -195,21 +198,18 @@ impl Reader<'_> {
             at: condition.at,
             head,
             loops: self.loops,
-        })?;
+        });
         if kind == Kind::Each {
             self.loops += 1;
         }
-        Ok(())
     }
 
     // A block more stands open.
-    fn stand(&mut self, block: Open) -> Result<(), Fault>
+    fn stand(&mut self, block: Open)
         requires { length self.old.blocks.items < 12 }
-        ensures done { result ≡ Ok tt }
-        ensures after { Stood self.old block self.new }
+        ensures { Stood self.old block self.new }
     {
-        let full = self.unmatched(Follow::Complete);
-        self.blocks.push(block).map_err(|_| full)
+        self.blocks.push(block).unwrap();
     }
 
     // The size of the block that ends here goes into the node of its instruction.
@@ -242,7 +242,8 @@ impl Reader<'_> {
             at: condition.at,
             head,
             ..block
-        })
+        });
+        Ok(())
     }
 
     fn otherwise(&mut self) -> Result<(), Fault>
@@ -262,7 +263,8 @@ impl Reader<'_> {
             at,
             head,
             ..block
-        })
+        });
+        Ok(())
     }
 
     fn end(&mut self) -> Result<(), Fault>
