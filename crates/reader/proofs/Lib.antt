@@ -1,1 +1,14 @@
+pub mod Places
 pub mod Leaves
+pub mod Limits
+pub mod Tabling
+pub mod Passing
+pub mod Words
+pub mod Joins
+pub mod Opens
+pub mod Seqs
+pub mod Shown
+pub mod Conditions
+pub mod Blocks
+pub mod Outer
+pub mod Answered

@@ -1,28 +1,14 @@
 -- What is promised of the reading of a template. Assumes nothing.
-use Rattle.std.specs.Prelude.{◌≡◌, ℕ, ◌+◌, ◌*◌, ◌<◌, ◌≤◌, true, List, [], length, take, Ok, Err, Result, ◌≢◌}
+use Rattle.std.specs.Prelude.{◌≡◌, ℕ, ◌+◌, ◌*◌, ◌<◌, ◌≤◌, List, [], length, take, Ok, Err, Result, ◌≢◌}
 use Rattle.refusals.specs.declared.Refusal.TheVariants.{TemplateTooLong, UnexpectedByte}
 use Rattle.trees.specs.Tree.{Items, Block, written}
 use Rattle.trees.specs.Flat.{flatten_block}
 use Rattle.trees.specs.Counts.{nodes_block, need_block}
-use Rattle.trees.specs.Laid.{laid}
 use Rattle.grammar.specs.Rules.{Rule, refusal_of, broken_rules}
-use Rattle.grammar.specs.Machine.{reading, accepted, refused}
 use Rattle.grammar.specs.Grammar.{Template}
 use Rattle.grammar.specs.Laws.{Viable, Dead, NothingDue, Earliest}
 use Rattle.reader.specs.declared.Reading.{Reading}
 use Rattle.reader.specs.declared.fault.Fault.{Fault}
-use Rattle.reader.specs.Tables.{Holds}
-
--- in the words of the machine: the items that are read, with their nodes and their need, or the refusal
-pub record Reads (text : List ℕ) (o : Reading) : Type 0 where
-  pub items : Items
-  pub accepts : reading true text ≡ accepted items
-  pub holds : Holds o.table (laid items).nodes
-  pub needs : o.stack ≡ (laid items).need
-
-abbrev pub Read : List ℕ → Result Reading Fault → Type 0
-Read text (Ok o) = Reads text o
-Read text (Err f) = reading true text ≡ refused f.refusal f.place
 
 -- The text is a template that breaks no rule: the one tree that it spells, the nodes of that tree in the table (all of them, if they are
 -- at most 2,048, as they are in a template of 1,024 nodes that count), and the counts that it needs.

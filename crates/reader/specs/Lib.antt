@@ -1,6 +1,11 @@
 pub mod Tables
 pub mod States
 pub mod Scans
+pub mod Reads
+pub mod Statements
+pub mod Heads
 pub mod Kinds
+pub mod Blocks
+pub mod Outside
 pub mod Answers
 pub mod Reports

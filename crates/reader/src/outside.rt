@@ -29,7 +29,7 @@ impl<'a> Reader<'a> {
 
     // The open piece of plain text ends here.
     fn end_piece(&mut self)
-        requires { (self.old.cursor.table.len + 1 < 2 ^ 64) × (self.old.cursor.table.nodes ≤ self.old.cursor.table.len) }
+        requires { self.old.cursor.table.len + 1 < 2 ^ 64 }
         ensures { WithTable self.old (pieced self.old.cursor.table self.old.«from» self.old.cursor.pos) self.new }
     {
         let span = Span {
@@ -45,7 +45,7 @@ impl<'a> Reader<'a> {
 
     // What a byte outside of instructions adds, before the machine takes it.
     fn emit(&mut self, class: Class)
-        requires { (self.old.cursor.table.len + 1 < 2 ^ 64) × ((self.old.cursor.table.nodes ≤ self.old.cursor.table.len) × ((self.old.cursor.pos < 4096) × (self.old.«from» ≤ 4096))) }
+        requires { (self.old.cursor.table.len + 1 < 2 ^ 64) × (self.old.«from» ≤ self.old.cursor.pos) }
         ensures { Emitted self.old class self.new }
     {
         match (self.cursor.state, class) {
@@ -68,7 +68,8 @@ impl<'a> Reader<'a> {
         }
     }
 
-    // A byte outside of instructions, or a whole instruction.
+    // A byte outside of instructions, or a whole instruction. The machine sees an instruction's first byte twice: here it tells that an
+    // instruction begins, and the instruction takes it as its own.
     pub(crate) fn advance(&mut self) -> Result<(), Fault>
         requires outer { Outer self.old self.old.blocks.items }
         requires within { self.old.cursor.pos < length self.old.cursor.text.now }
@@ -88,7 +89,7 @@ impl<'a> Reader<'a> {
 
     // The template's end.
     pub(crate) fn finish(&mut self) -> Result<(), Fault>
-        requires { (self.old.cursor.table.len + 1 < 2 ^ 64) × (self.old.cursor.table.nodes ≤ self.old.cursor.table.len) }
+        requires { self.old.cursor.table.len + 1 < 2 ^ 64 }
         ensures { Ended self.old.blocks.items self.old result self.new }
     {
         match self.cursor.state {

@@ -1,17 +1,19 @@
 -- What the reader does outside of instructions, and with a whole template. Assumes nothing.
-use Rattle.std.specs.Prelude.{◌≡◌, ℕ, ◌+◌, ◌-◌, ◌<◌, ◌≤◌, Bool, true, false, cond, List, [], ◌∷◌, length, Ok, Err, Result, nat_lt}
+use Rattle.std.specs.Prelude.{◌≡◌, ℕ, ◌+◌, ◌<◌, ◌≤◌, Bool, true, false, cond, List, [], ◌∷◌, Ok, Err, Result, nat_lt}
 use Rattle.refusals.specs.declared.Refusal.TheVariants.{UnexpectedByte, UnmatchedBlock}
 use Rattle.tokens.specs.declared.byte.Class.{Class}
 use Rattle.trees.specs.declared.Node.TheVariants as node
-use Rattle.trees.specs.Tree.{Item, Items, from_to}
-use Rattle.grammar.specs.Machine.{Config, Stack, Head, want, line, plain, comment, dollar_at_line, dollar, row, onward, refused}
+use Rattle.trees.specs.Tree.{Items, from_to}
+use Rattle.trees.specs.Laid.{laid}
+use Rattle.grammar.specs.Machine.{Config, Stack, Head, want, line, plain, comment, dollar_at_line, dollar, row, onward, reading, accepted, refused}
 use Rattle.reader.specs.declared.block.Open.{Open}
 use Rattle.reader.specs.declared.cursor.State.{State}
 use Rattle.reader.specs.declared.cursor.State.TheVariants.{Line, Plain, Comment, Instruction, Text, DollarAtLine, Dollar, Escape}
+use Rattle.reader.specs.declared.Reading.{Reading}
 use Rattle.reader.specs.declared.instruction.Reader.{Reader}
 use Rattle.reader.specs.declared.fault.Fault.{Fault}
 use Rattle.reader.specs.Tables.{Table}
-use Rattle.reader.specs.Tables.{blank, pushed}
+use Rattle.reader.specs.Tables.{blank, pushed, Holds}
 use Rattle.reader.specs.States.{fault}
 use Rattle.reader.specs.Blocks.{Became, WithTable, Standing, Kept}
 
@@ -65,11 +67,11 @@ outside DollarAtLine i ts = dollar_at_line i ts
 outside Dollar i ts = dollar i ts
 outside Escape i ts = want (Stack.top i Head.show ts)
 
--- no more nodes than bytes, an open piece and an open `$` left out
+-- no more nodes than bytes, an open piece and an open `$` left out; and these begin no later than the cursor stands
 abbrev pub Sparse : State → ℕ → ℕ → ℕ → Type 0
-Sparse Line i p n = n ≤ p
+Sparse Line i p n = (i ≤ p) × (n ≤ p)
 Sparse Plain i p n = (i ≤ p) × (n ≤ i)
-Sparse Comment i p n = n ≤ p
+Sparse Comment i p n = (i ≤ p) × (n ≤ p)
 Sparse Instruction i p n = ⊥
 Sparse Text i p n = ⊥
 Sparse DollarAtLine i p n = (i + 1 ≡ p) × (n ≤ i)
@@ -120,3 +122,14 @@ unclosed_in (o ∷ os) = Err (fault UnmatchedBlock o.place)
 pub record Ended (bs : List Open) (r : Reader) (o : Result (Unit {0}) Fault) (r' : Reader) : Type 0 where
   pub answer : o ≡ cond (may_end r.cursor.state) (unclosed_in bs) (Err (fault UnexpectedByte r.cursor.pos))
   pub after : WithTable r (table_end r.cursor.state r.«from» r.cursor.pos r.cursor.table) r'
+
+-- a whole template: the items that are read, with their nodes and their need, or the refusal
+pub record Reads (text : List ℕ) (o : Reading) : Type 0 where
+  pub items : Items
+  pub accepts : reading true text ≡ accepted items
+  pub holds : Holds o.table (laid items).nodes
+  pub needs : o.stack ≡ (laid items).need
+
+abbrev pub Read : List ℕ → Result Reading Fault → Type 0
+Read text (Ok o) = Reads text o
+Read text (Err f) = reading true text ≡ refused f.refusal f.place
