@@ -1,6 +1,6 @@
 // Reads expressions. The functions for operators, arguments, subscripts and lists call each other in a cycle; how many brackets are left
 // to open falls at each.
-ghost use Rattle.std.specs.Prelude.{◌≡◌, ℕ, ◌+◌, ◌-◌, ◌*◌, ◌^◌, ◌<◌, ◌≤◌, true, false, ◌⊎◌, length, Some, None, ◌≢◌};
+ghost use Rattle.std.specs.Prelude.{◌≡◌, ◌+◌, ◌≤◌, true, false, Some, None, ◌≢◌};
 ghost use Rattle.tokens.specs.Operators.{level, is_short};
 ghost use Rattle.grammar.specs.Machine.{want};
 ghost use Rattle.reader.specs.declared.cursor.State.TheVariants.{Instruction};

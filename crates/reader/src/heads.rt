@@ -1,6 +1,6 @@
 // Reads the instructions of blocks: their conditions, names and delimiters.
-ghost use Rattle.std.specs.Prelude.{◌≡◌, ℕ, ◌+◌, ◌-◌, ◌^◌, ◌<◌, ◌≤◌, length};
-ghost use Rattle.reader.specs.Scans.{start_at, after_at, Ready};
+ghost use Rattle.std.specs.Prelude.{◌+◌, ◌≤◌};
+ghost use Rattle.reader.specs.Scans.{Ready};
 ghost use Rattle.reader.specs.Heads.{Named, Conditioned, Tested, Headed, Delimited, AtWord};
 
 use crate::cursor::{Cursor, Follow, Inside};

@@ -1,5 +1,5 @@
 // Reads instructions.
-ghost use Rattle.std.specs.Prelude.{◌≡◌, ◌+◌, ◌<◌, ◌≤◌, length, Ok};
+ghost use Rattle.std.specs.Prelude.{◌≡◌, ◌+◌, ◌<◌, ◌≤◌, length};
 
 use crate::block::{DEEPEST, Kind, Open};
 use crate::cursor::{Cursor, Follow, Inside};
@@ -29,7 +29,6 @@ impl Reader<'_> {
     ghost use Rattle.trees.specs.Laid.{head_size};
     ghost use Rattle.reader.specs.Scans.{start_at, Limited};
     ghost use Rattle.reader.specs.Heads.{AtWord};
-    ghost use Rattle.reader.specs.Kinds.{is_each_in};
     ghost use Rattle.reader.specs.Blocks.{Entered, Instructed, Roomed, Chosen, command_out, opening_out, WithTable, Needs, Stood, Opens, arm_closed};
 
     // An instruction, behind its `$`, with the `$` that closes it.

@@ -1,5 +1,5 @@
 // Reads what stands outside of instructions, and whole templates.
-ghost use Rattle.std.specs.Prelude.{◌≡◌, ℕ, ◌+◌, ◌^◌, ◌<◌, ◌≤◌, length};
+ghost use Rattle.std.specs.Prelude.{◌≡◌, ◌+◌, ◌^◌, ◌<◌, ◌≤◌, length};
 ghost use Rattle.reader.specs.Outside.{Fresh, pieced, Emitted, Outer, Advanced, Ended};
 ghost use Rattle.reader.specs.Blocks.{WithTable};
 

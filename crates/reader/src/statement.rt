@@ -1,5 +1,5 @@
 // Reads instructions without a block: expressions that are shown, and assignments.
-ghost use Rattle.std.specs.Prelude.{◌≡◌, ℕ, ◌+◌, ◌-◌, ◌^◌, ◌<◌, ◌≤◌, true, false, length, ◌≢◌};
+ghost use Rattle.std.specs.Prelude.{◌≡◌, ◌+◌, ◌-◌, ◌^◌, ◌<◌, ◌≤◌, ◌≢◌};
 ghost use Rattle.reader.specs.Tables.{pushed};
 ghost use Rattle.reader.specs.States.{Tabled};
 ghost use Rattle.reader.specs.Scans.{start_at, after_at, Ready};
