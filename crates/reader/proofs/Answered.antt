@@ -13,7 +13,7 @@ use Rattle.grammar.specs.Grammar.{Template}
 use Rattle.grammar.specs.Laws.{Faultless}
 use Rattle.grammar.proofs.Closed.{exact, names_the_byte, names_the_rule, block_of, only_block}
 use Rattle.reader.specs.declared.Reading.{Reading}
-use Rattle.reader.specs.declared.fault.Fault.{Fault}
+use Rattle.refusals.specs.declared.fault.Fault.{Fault}
 use Rattle.reader.specs.Tables.{Holds}
 use Rattle.reader.specs.Answers.{ReadAs, RefusedAs, unexpected, breaks, Refuses, Answered}
 use Rattle.reader.specs.Outside.{Reads, Read}

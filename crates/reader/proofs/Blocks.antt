@@ -34,7 +34,7 @@ use Rattle.reader.specs.declared.cursor.Follow.TheVariants as follow
 use Rattle.reader.specs.declared.cursor.Inside.{Inside}
 use Rattle.reader.specs.declared.cursor.Inside.TheVariants as inside
 use Rattle.reader.specs.declared.cursor.State.TheVariants.{Plain}
-use Rattle.reader.specs.declared.fault.Fault.{Fault}
+use Rattle.refusals.specs.declared.fault.Fault.{Fault}
 use Rattle.reader.specs.declared.heads.Condition.{Condition}
 use Rattle.reader.specs.declared.instruction.Reader.{Reader}
 use Rattle.reader.specs.Tables.{Table, put, pushed, patched, Holds, Grew}

@@ -31,7 +31,7 @@ use Rattle.reader.specs.declared.cursor.Follow.TheVariants as follow
 use Rattle.reader.specs.declared.cursor.Numeral.{Numeral}
 use Rattle.reader.specs.declared.expression.Context.{Context}
 use Rattle.reader.specs.declared.expression.Operand.{Operand}
-use Rattle.reader.specs.declared.fault.Fault.{Fault}
+use Rattle.refusals.specs.declared.fault.Fault.{Fault}
 use Rattle.reader.specs.Tables.{Table, Holds, Grew}
 use Rattle.reader.specs.Tables as tables
 use Rattle.reader.specs.States.{fault, Inner, MovedTo, Tabled}

@@ -15,7 +15,7 @@ use Rattle.grammar.proofs.Moves.{at_end, moves, alike}
 use Rattle.reader.specs.declared.cursor.Cursor.{Cursor}
 use Rattle.reader.specs.declared.cursor.State.{State}
 use Rattle.reader.specs.declared.cursor.State.TheVariants.{Instruction, Text, Escape}
-use Rattle.reader.specs.declared.fault.Fault.{Fault}
+use Rattle.refusals.specs.declared.fault.Fault.{Fault}
 use Rattle.reader.specs.States.{moved, fault, MovedTo, Taken}
 use Rattle.reader.specs.Scans.{start_at, digit_at, prefixed_at, capped, Skipped, Ran, Digited, Numbers, Quotes}
 use Rattle.reader.proofs.Places.{start_is, digit_here, digit_inside}

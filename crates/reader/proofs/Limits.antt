@@ -25,7 +25,7 @@ use Rattle.grammar.proofs.Moves.{moves, at_end, reduce_all, level_least}
 use Rattle.reader.specs.declared.cursor.Cursor.{Cursor}
 use Rattle.reader.specs.declared.cursor.Follow.{Follow}
 use Rattle.reader.specs.declared.cursor.Inside.{Inside}
-use Rattle.reader.specs.declared.fault.Fault.{Fault}
+use Rattle.refusals.specs.declared.fault.Fault.{Fault}
 use Rattle.reader.specs.States.{fault}
 use Rattle.reader.specs.Scans.{ends, separates, is_top, is_join, operand_end, name_end, last_end, begins, follows, Limited, after_of, after_at, token_of, token_at, or_else, doubled_of, halfway, unexpected_at}
 use Rattle.reader.specs.Reads.{head_inside, bracket_inside, innermost, Clear, Stops}

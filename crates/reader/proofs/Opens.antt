@@ -32,7 +32,7 @@ use Rattle.reader.specs.declared.cursor.State.TheVariants.{Instruction}
 use Rattle.reader.specs.declared.expression.Context.{Context}
 use Rattle.reader.specs.declared.expression.Operand.{Operand}
 use Rattle.reader.specs.declared.expression.Arguments.{Arguments}
-use Rattle.reader.specs.declared.fault.Fault.{Fault}
+use Rattle.refusals.specs.declared.fault.Fault.{Fault}
 use Rattle.reader.specs.States.{fault, MovedTo, Tabled}
 use Rattle.reader.specs.Tables.{Table, pushed}
 use Rattle.reader.specs.Scans.{Spaced, Worded, start_at, after_at, unexpected_at, Limited, Ready}

@@ -18,7 +18,7 @@ use denote.Enum.Bare.{sameb}
 use Rattle.reader.specs.contracts.cursor.State.{the_type}
 use Rattle.reader.specs.declared.cursor.State.{State}
 use Rattle.reader.specs.declared.cursor.State.TheVariants.{Line, Plain, Comment, Instruction, Text, DollarAtLine, Dollar, Escape}
-use Rattle.reader.specs.declared.fault.Fault.{Fault}
+use Rattle.refusals.specs.declared.fault.Fault.{Fault}
 use Rattle.reader.specs.declared.instruction.Reader.{Reader}
 use Rattle.reader.specs.declared.Reading.{Reading}
 use Rattle.reader.specs.Tables.{Table, pushed, Holds}

@@ -13,7 +13,7 @@ use Rattle.tokens.specs.Bytes.{start, after, class, blank, digit_value}
 use Rattle.tokens.specs.Operators.{is_wide}
 use Rattle.reader.specs.declared.cursor.Cursor.{Cursor}
 use Rattle.reader.specs.declared.cursor.State.TheVariants.{Instruction, Plain}
-use Rattle.reader.specs.declared.fault.Fault.{Fault}
+use Rattle.refusals.specs.declared.fault.Fault.{Fault}
 use Rattle.reader.specs.States.{moved, Inner, MovedTo, Taken}
 use Rattle.reader.specs.Scans.{Spaced, start_of, start_at, after_of, after_at, digit_of, digit_at, token_of, token_at}
 use Rattle.reader.specs.Statements.{Finished, Completed}

@@ -28,7 +28,7 @@ use Rattle.reader.specs.declared.cursor.Inside.TheVariants as inside
 use Rattle.reader.specs.declared.expression.Context.{Context}
 use Rattle.reader.specs.declared.expression.Operand.{Operand}
 use Rattle.reader.specs.declared.expression.Group.{Group}
-use Rattle.reader.specs.declared.fault.Fault.{Fault}
+use Rattle.refusals.specs.declared.fault.Fault.{Fault}
 use Rattle.reader.specs.declared.cursor.State.TheVariants.{Instruction}
 use Rattle.reader.specs.Tables.{Table, pushed, restored, Grew}
 use Rattle.reader.specs.States.{fault, MovedTo, Tabled}

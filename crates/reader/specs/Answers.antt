@@ -8,7 +8,7 @@ use Rattle.grammar.specs.Rules.{Rule, refusal_of, broken_rules}
 use Rattle.grammar.specs.Grammar.{Template}
 use Rattle.grammar.specs.Laws.{Viable, Dead, NothingDue, Earliest}
 use Rattle.reader.specs.declared.Reading.{Reading}
-use Rattle.reader.specs.declared.fault.Fault.{Fault}
+use Rattle.refusals.specs.declared.fault.Fault.{Fault}
 
 -- The text is a template that breaks no rule: the one tree that it spells, the nodes of that tree in the table (all of them, if they are
 -- at most 2,048, as they are in a template of 1,024 nodes that count), and the counts that it needs.

@@ -15,7 +15,7 @@ use Rattle.reader.specs.declared.cursor.Follow.{Follow}
 use Rattle.reader.specs.declared.cursor.State.TheVariants.{Plain}
 use Rattle.reader.specs.declared.instruction.Reader.{Reader}
 use Rattle.reader.specs.declared.heads.Condition.{Condition}
-use Rattle.reader.specs.declared.fault.Fault.{Fault}
+use Rattle.refusals.specs.declared.fault.Fault.{Fault}
 use Rattle.reader.specs.Tables.{Table}
 use Rattle.reader.specs.Tables.{Holds, patched}
 use Rattle.reader.specs.Scans.{Ready, Limited}

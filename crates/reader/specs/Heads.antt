@@ -13,7 +13,7 @@ use Rattle.reader.specs.declared.cursor.Inside.{Inside}
 use Rattle.reader.specs.declared.cursor.Inside.TheVariants as inside
 use Rattle.reader.specs.declared.cursor.State.TheVariants.{Instruction, Plain}
 use Rattle.reader.specs.declared.heads.Condition.{Condition}
-use Rattle.reader.specs.declared.fault.Fault.{Fault}
+use Rattle.refusals.specs.declared.fault.Fault.{Fault}
 use Rattle.reader.specs.Tables.{Grew}
 use Rattle.reader.specs.States.{MovedTo}
 use Rattle.reader.specs.Reads.{Wanting, Stops}

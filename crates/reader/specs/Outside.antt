@@ -11,7 +11,7 @@ use Rattle.reader.specs.declared.cursor.State.{State}
 use Rattle.reader.specs.declared.cursor.State.TheVariants.{Line, Plain, Comment, Instruction, Text, DollarAtLine, Dollar, Escape}
 use Rattle.reader.specs.declared.Reading.{Reading}
 use Rattle.reader.specs.declared.instruction.Reader.{Reader}
-use Rattle.reader.specs.declared.fault.Fault.{Fault}
+use Rattle.refusals.specs.declared.fault.Fault.{Fault}
 use Rattle.reader.specs.Tables.{Table}
 use Rattle.reader.specs.Tables.{blank, pushed, Holds}
 use Rattle.reader.specs.States.{fault}

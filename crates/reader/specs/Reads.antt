@@ -33,7 +33,7 @@ use Rattle.reader.specs.declared.expression.Context.{Context}
 use Rattle.reader.specs.declared.expression.Operand.{Operand}
 use Rattle.reader.specs.declared.expression.Arguments.{Arguments}
 use Rattle.reader.specs.declared.expression.Group.{Group}
-use Rattle.reader.specs.declared.fault.Fault.{Fault}
+use Rattle.refusals.specs.declared.fault.Fault.{Fault}
 use Rattle.reader.specs.Tables.{Grew}
 use Rattle.reader.specs.States.{fault, MovedTo}
 use Rattle.reader.specs.declared.cursor.Follow.{Follow}

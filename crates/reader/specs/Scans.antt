@@ -26,7 +26,7 @@ use Rattle.reader.specs.declared.cursor.Follow.{Follow}
 use Rattle.reader.specs.declared.cursor.Follow.TheVariants as follow
 use Rattle.reader.specs.declared.cursor.Numeral.{Numeral}
 use Rattle.reader.specs.declared.cursor.State.TheVariants.{Instruction}
-use Rattle.reader.specs.declared.fault.Fault.{Fault}
+use Rattle.refusals.specs.declared.fault.Fault.{Fault}
 use Rattle.reader.specs.States.{fault, MovedTo}
 
 -- which closing signs, separators and ends belong to what stands open

@@ -17,7 +17,7 @@ use Rattle.reader.specs.declared.cursor.Cursor.{Cursor}
 use Rattle.reader.specs.declared.cursor.State.TheVariants.{Plain}
 use Rattle.reader.specs.declared.expression.Operand.{Operand}
 use Rattle.reader.specs.declared.statement.Statement.{Statement}
-use Rattle.reader.specs.declared.fault.Fault.{Fault}
+use Rattle.refusals.specs.declared.fault.Fault.{Fault}
 use Rattle.reader.specs.Tables.{Table}
 use Rattle.reader.specs.Tables.{Grew}
 use Rattle.reader.specs.States.{fault, Onwards}

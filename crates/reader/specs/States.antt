@@ -8,7 +8,7 @@ use Rattle.grammar.specs.Machine.{row}
 use Rattle.reader.specs.declared.cursor.State.{State}
 use Rattle.reader.specs.declared.cursor.State.TheVariants.{Line, Plain, Comment, Instruction, Text, DollarAtLine, Dollar, Escape}
 use Rattle.reader.specs.declared.cursor.Cursor.{Cursor}
-use Rattle.reader.specs.declared.fault.Fault.{Fault}
+use Rattle.refusals.specs.declared.fault.Fault.{Fault}
 use Rattle.reader.specs.Tables.{Table}
 
 -- the state after a byte; its columns are Newline, Return, Blank, Dollar, Quote, Backslash, Escaped, Other. None: the byte cannot stand there.

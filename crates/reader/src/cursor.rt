@@ -1,10 +1,10 @@
 // Goes through a template byte by byte: the machine of eight states, and the tokens of instructions.
 ghost use Rattle.std.specs.Prelude.{◌≡◌, ◌+◌, ◌^◌, ◌<◌, ◌≤◌, true, length, slice_get, slice_index, SomeIff};
 
-use crate::fault::Fault;
 use crate::number::appended;
 use crate::table::Table;
 use refusals::Refusal;
+use refusals::fault::Fault;
 use tokens::byte::{After, Class, Separator, Shape, Start, digit_value, is_blank, is_word};
 use tokens::operator::{Half, Op};
 use trees::{Node, Quote, Span};

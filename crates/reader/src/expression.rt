@@ -12,10 +12,10 @@ ghost use Rattle.reader.specs.Scans.{start_at, after_at, token_at, width_of, Rea
 ghost use Rattle.reader.specs.Reads.{Fitting, Wanting, Did, Solid, Stopped, Tailed, Joined, Primal, Closed, Subscribed, Called, Argued, Itemed, is_comma, GroupEnded, Ended, Continued, Ellipsed, Dotted, Arrived, EndedSequence, Sequenced, Placed, Measured, FreeName};
 
 use crate::cursor::{Cursor, Follow, Inside, Numeral};
-use crate::fault::Fault;
 use functions::find;
 use keywords::find as find_keyword;
 use refusals::Refusal;
+use refusals::fault::Fault;
 use tokens::byte::{After, Separator, Shape, Start};
 use tokens::operator::{Op, Sign};
 use trees::{Constant, Node, Span};

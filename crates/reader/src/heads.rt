@@ -5,7 +5,7 @@ ghost use Rattle.reader.specs.Heads.{Named, Conditioned, Tested, Headed, Delimit
 
 use crate::cursor::{Cursor, Follow, Inside};
 use crate::expression::{Context, LONGEST_CONSTANT};
-use crate::fault::Fault;
+use refusals::fault::Fault;
 use tokens::byte::{After, Start};
 use trees::{Quote, Span};
 

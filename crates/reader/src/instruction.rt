@@ -3,10 +3,10 @@ ghost use Rattle.std.specs.Prelude.{◌≡◌, ◌+◌, ◌<◌, ◌≤◌, leng
 
 use crate::block::{DEEPEST, Kind, Open};
 use crate::cursor::{Cursor, Follow, Inside};
-use crate::fault::Fault;
 use crate::heads::Condition;
 use keywords::{Keyword, find};
 use refusals::Refusal;
+use refusals::fault::Fault;
 use stacks::Stack;
 use tokens::byte::Start;
 use trees::Node;

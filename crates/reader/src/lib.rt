@@ -9,9 +9,9 @@ ghost use Rattle.reader.specs.Outside.{Fresh, Read};
 
 use block::{DEEPEST, Kind, Open};
 use cursor::Cursor;
-pub use fault::Fault;
 use instruction::Reader;
 use refusals::Refusal;
+use refusals::fault::Fault;
 use std::fmt;
 use table::{ROOM, Table};
 use trees::Node;
@@ -19,7 +19,6 @@ use trees::Node;
 mod block;
 mod cursor;
 mod expression;
-mod fault;
 mod heads;
 mod instruction;
 mod number;

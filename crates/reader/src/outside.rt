@@ -5,9 +5,9 @@ ghost use Rattle.reader.specs.Blocks.{WithTable};
 
 use crate::block::Open;
 use crate::cursor::{Cursor, State};
-use crate::fault::Fault;
 use crate::instruction::Reader;
 use refusals::Refusal;
+use refusals::fault::Fault;
 use stacks::Stack;
 use tokens::byte::Class;
 use trees::{Node, Span};

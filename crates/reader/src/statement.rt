@@ -8,7 +8,7 @@ ghost use Rattle.reader.specs.Statements.{assigns_at, Finished, Completed, Simpl
 
 use crate::cursor::{Cursor, Follow, Inside};
 use crate::expression::{Context, LONGEST_NAME, Operand};
-use crate::fault::Fault;
+use refusals::fault::Fault;
 use tokens::byte::{After, Start};
 use tokens::operator::Half;
 use trees::{Node, Span};

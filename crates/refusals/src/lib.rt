@@ -7,6 +7,8 @@ ghost use Rattle.refusals.specs.Refusals.{number_of, layer_of, word_of, report_o
 use std::error::Error;
 use std::fmt;
 
+pub mod fault;
+
 // The layer that refuses.
 #[derive(Clone, Copy, PartialEq, Eq, Debug)]
 pub enum Layer {

@@ -1,11 +1,12 @@
-// Why and where a template is refused.
+// A refusal with its place.
 ghost use Rattle.std.specs.Prelude.{Some};
-ghost use Rattle.reader.specs.Reports.{report_of};
+ghost use Rattle.refusals.specs.Faults.{placed_report};
 
-use refusals::Refusal;
+use super::Refusal;
 use std::error::Error;
 use std::fmt;
 
+// Why a template is refused, and at which of its bytes, from 0.
 #[derive(Clone, Copy, PartialEq, Eq, Debug)]
 pub struct Fault {
     pub refusal: Refusal,
@@ -14,7 +15,7 @@ pub struct Fault {
 
 // What a program reports.
 impl fmt::Display for Fault {
-    ghost output = { λ f. Some (report_of f) };
+    ghost output = { λ f. Some (placed_report f) };
 
     fn fmt<W: fmt::Write>(&self, f: &mut fmt::Formatter<W>) -> fmt::Result {
         write!(
