@@ -1,5 +1,5 @@
 // Texts from bytes, and back.
-ghost use Rattle.std.specs.Prelude.{◌≡◌, length, nat_le};
+ghost use Rattle.std.specs.Prelude.{◌≡◌, [], length, nat_le};
 ghost use Rattle.arrays.specs.Items.{items};
 ghost use Rattle.refusals.specs.Refusals.{answered, meant};
 ghost use Rattle.refusals.specs.declared.Refusal.TheVariants.{TextTooLong};
@@ -28,6 +28,17 @@ impl From<ArrayVec<u8, 32>> for Text {
 
     fn from(bytes: ArrayVec<u8, 32>) -> Text {
         Text { bytes }
+    }
+}
+
+// The text of no bytes.
+impl Default for Text {
+    ghost is_default = { λ t. text_means t ≡ [] };
+
+    fn default() -> Text {
+        Text {
+            bytes: ArrayVec::new(0),
+        }
     }
 }
 

@@ -17,6 +17,18 @@ impl Default for Value {
     }
 }
 
+// The value of one element.
+impl From<Element> for Value {
+    ghost from_gives = { λ e v. value_means v ≡ element_means e ∷ [] };
+
+    fn from(element: Element) -> Value {
+        let mut value = Value::new();
+        // there is room for 16
+        value.push(element).unwrap();
+        value
+    }
+}
+
 impl Value {
     // The value of no elements.
     pub fn new() -> Value
