@@ -34,6 +34,33 @@ weight (node.Binary p o) = 1
 weight (node.Short p o n) = 1
 weight (node.Judged p) = 0
 
+-- the place that names it in a refusal; 0 of a node that is never named
+abbrev pub place_of : Node → ℕ
+place_of (node.Piece s) = s.«from»
+place_of (node.Dollar p) = p
+place_of (node.Show p n) = p
+place_of (node.Assign p s n m) = p
+place_of (node.If p n m) = p
+place_of (node.Elif p n m) = p
+place_of (node.Else m) = 0
+place_of node.End = 0
+place_of (node.While p n m) = p
+place_of (node.Foreach p s n m) = p
+place_of (node.Joineach p s n d m) = p
+place_of (node.Number s v) = s.«from»
+place_of (node.Text s) = s.«from»
+place_of (node.Name s) = s.«from»
+place_of (node.Index s) = s.«from»
+place_of (node.Call p f n) = p
+place_of (node.Empty p) = p
+place_of (node.List p) = p
+place_of (node.Sequence p a b c) = p
+place_of node.Joined = 0
+place_of (node.Signed p s) = p
+place_of (node.Binary p o) = p
+place_of (node.Short p o n) = p
+place_of (node.Judged p) = p
+
 abbrev pub total : List Node → ℕ
 total [] = 0
 total (n ∷ ns) = weight n + total ns

@@ -3,7 +3,7 @@
 
 ghost use Rattle.std.specs.Prelude.{◌≡◌, min};
 ghost use Rattle.trees.specs.Tree.{from_to};
-ghost use Rattle.trees.specs.Laid.{weight, head_size, with_body};
+ghost use Rattle.trees.specs.Laid.{weight, place_of, head_size, with_body};
 
 use functions::Function;
 use tokens::operator::{Op, Sign};
@@ -176,6 +176,36 @@ impl Node {
             Node::Joined | Node::Judged { .. } => 0,
             _ => 1,
         }
+    }
+
+    // The place that names it in a refusal; 0 of a node that is never named.
+    pub fn place(self) -> usize
+        ensures { result ≡ place_of self }
+    {
+        usize::from(match self {
+            Node::Piece { span }
+            | Node::Number { span, .. }
+            | Node::Text { span }
+            | Node::Name { span }
+            | Node::Index { span } => span.from,
+            Node::Dollar { place }
+            | Node::Show { place, .. }
+            | Node::Assign { place, .. }
+            | Node::If { place, .. }
+            | Node::Elif { place, .. }
+            | Node::While { place, .. }
+            | Node::Foreach { place, .. }
+            | Node::Joineach { place, .. }
+            | Node::Call { place, .. }
+            | Node::Empty { place }
+            | Node::List { place }
+            | Node::Sequence { place, .. }
+            | Node::Signed { place, .. }
+            | Node::Binary { place, .. }
+            | Node::Short { place, .. }
+            | Node::Judged { place } => place,
+            Node::Else { .. } | Node::End | Node::Joined => 0,
+        })
     }
 
     // How many nodes stand between an instruction's node and its block.
