@@ -1,0 +1,3 @@
+pub mod Operators
+pub mod Functions
+pub mod Laws
