@@ -1,0 +1,3 @@
+pub mod Lawfulness
+pub mod Tests
+pub mod Worked

@@ -1,0 +1,5 @@
+pub mod Constants
+pub mod Meaning
+pub mod Lawful
+pub mod Slips
+pub mod Laws
