@@ -1,0 +1,14 @@
+pub mod Acting
+pub mod Choices
+pub mod Composing
+pub mod Exits
+pub mod Instructed
+pub mod Kept
+pub mod Printing
+pub mod Promises
+pub mod Rounds
+pub mod Shapes
+pub mod Simples
+pub mod Walking
+pub mod Walks
+pub mod Writing

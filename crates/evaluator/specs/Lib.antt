@@ -1,0 +1,5 @@
+pub mod Held
+pub mod Prints
+pub mod Turns
+pub mod Runs
+pub mod Blocks
