@@ -84,7 +84,10 @@ impl<T: Copy, const N: usize> ArrayVec<T, N> {
         if self.len == N {
             return Err(InsertError::Full);
         }
-        self.slots.copy_within(at..self.len, at + 1);
+        // by a loop: the library's copy moves each element twice
+        for i in (at..self.len).rev() {
+            self.slots[i + 1] = self.slots[i];
+        }
         self.slots[at] = x;
         self.len += 1;
         Ok(())
@@ -95,8 +98,10 @@ impl<T: Copy, const N: usize> ArrayVec<T, N> {
         ensures { Exchanged at (items self.old) (remove (items self.old) at) (items self.new) result }
     {
         let x = *self.as_slice().get(at)?;
-        self.slots.copy_within(at + 1..self.len, at);
         self.len -= 1;
+        for i in at..self.len {
+            self.slots[i] = self.slots[i + 1];
+        }
         Some(x)
     }
 

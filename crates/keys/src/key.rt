@@ -4,7 +4,8 @@ ghost use Rattle.keys.specs.KeyMeans.{key_means};
 ghost use Rattle.keys.specs.KeyOrder.{KeyName, key_order};
 
 use super::name::Name;
-use order::Ordered;
+use order::{Ordered, Ranked};
+use std::cmp::Ordering;
 
 #[derive(Clone, Copy, PartialEq, Eq, PartialOrd, Ord)]
 pub struct Key {
@@ -19,5 +20,11 @@ impl Ordered for Key {
 
     ghost order = { key_order };
 
+    fn compare(&self, other: &Key) -> Ordering {
+        self.cmp(other)
+    }
+}
+
+impl Ranked for Key {
     ghost ranks = { Prim.search rules };
 }

@@ -1,5 +1,5 @@
 -- Digits, read one by one. Assumes nothing.
-use Rattle.std.proofs.Common.{◌≡◌, ℕ, suc, ◌-◌, ◌^◌, ◌<◌, ◌≤◌, Bool, true, false, eqb, ltb, leb, List, [], ◌∷◌, length, get_or, drop, ℤ, pos, negsuc, Ok, Err, Result, decimal, nat_abs, true≢false, sym, refl, ap, ◌∙◌, arith, rules, w64}
+use Rattle.std.proofs.Common.{◌≡◌, ℕ, suc, ◌+◌, ◌-◌, ◌*◌, ◌^◌, ◌<◌, ◌≤◌, Bool, true, false, eqb, ltb, leb, List, [], ◌∷◌, length, get_or, drop, ℤ, pos, negsuc, Ok, Err, Result, decimal, nat_abs, true≢false, sym, refl, ap, ◌∙◌, le_refl, arith, rules, w64}
 use lib.Signed.{mag, lt_z}
 use Rattle.std.specs.Char.{is_ascii_digit}
 use Rattle.std.specs.Fmt.{signed_decimal}
@@ -7,6 +7,7 @@ use Rattle.std.specs.Result.{OkIff, MatchResult}
 use Rattle.std.specs.Str.{IsAscii, IsUtf8}
 use Rattle.std.specs.Str.Parse.{ParsesSigned}
 use Rattle.std.proofs.lemmas.Fmt.{decimal_nonempty, digits_decimal, digits_value-decimal}
+use Rattle.std.proofs.lemmas.List.{at_drop_more}
 use Rattle.std.proofs.lemmas.Str.{IsUtf8-from_ascii}
 use Rattle.std.proofs.lemmas.Str.Ascii.{IsAscii-nil, IsAscii-cons}
 use Rattle.std.proofs.lemmas.Str.Parse.{IsNumeralModel, numerals_by_fold, parse_signed_minus, parse_signed_plus, parse_signed_digits}
@@ -22,6 +23,24 @@ own = numerals_by_fold _ (search rules) read_on (search rules)
 
 digit_range : (b : ℕ) → is_ascii_digit b ≡ true → (48 ≤ b) × (b ≤ 57)
 digit_range b h = let p = and_parts (leb 48 b) (leb b 57) h in (leb-true 48 b p.0, leb-true b 57 p.1)
+
+pub digits_parts : (bs : List ℕ) (i : ℕ) → i < length bs → digits (drop i bs) ≡ true → (48 ≤ get_or bs i 0) × (get_or bs i 0 ≤ 57) × (digits (drop (i + 1) bs) ≡ true)
+digits_parts bs i h d =
+    let p = and_parts (is_ascii_digit (get_or bs i 0)) (digits (drop (i + 1) bs)) (sym (at_drop_more digits bs i 0 h) ∙ d) in
+    let q = digit_range (get_or bs i 0) p.0 in
+    (q.0, q.1, p.1)
+
+pub read_step : (n : ℕ) (bs : List ℕ) (i : ℕ) → i < length bs → read_on n (drop i bs) ≡ read_on (10 * n + (get_or bs i 0 - 48)) (drop (i + 1) bs)
+read_step n bs i h = at_drop_more (read_on n) bs i 0 h
+
+-- reading on makes no number smaller
+pub read_grows : (n : ℕ) (bs : List ℕ) → n ≤ read_on n bs
+read_grows n [] = le_refl n
+read_grows n (b ∷ bs) = omega (arith, read_grows (10 * n + (b - 48)) bs)
+
+-- the number so far, with one more digit, is at most the whole
+pub next_grows : (n : ℕ) (bs : List ℕ) (i : ℕ) → i < length bs → 10 * n + (get_or bs i 0 - 48) ≤ read_on n (drop i bs)
+next_grows n bs i h = omega (arith, read_step n bs i h, read_grows (10 * n + (get_or bs i 0 - 48)) (drop (i + 1) bs))
 
 digit_first : (bs : List ℕ) (x : ℕ) → x < 48 → digits bs ≡ true → begins_with x bs ≡ false
 digit_first [] x l d = refl

@@ -9,6 +9,8 @@ use itoa::write_digits;
 impl From<i64> for Numeral {
     ghost from_gives = { λ n r. r ≡ signed_decimal n };
 
+    // Inlined, since a caller would copy what a call has just written, and wait longer for it than for a few digits.
+    #[inline]
     fn from(n: i64) -> Self {
         let mut bytes = [0; 20];
         let mut start = write_digits(n.unsigned_abs(), &mut bytes, 20);

@@ -1,21 +1,23 @@
 -- What an order gives of sorted rows. Assumes nothing.
-use Rattle.std.proofs.Common.{◌≡◌, ℕ, zero, suc, ◌<◌, ◌≤◌, true, List, [], ◌∷◌, length, get_or, take, drop, Ordering, Less, Equal, Greater, Ok, Err, Result, sym, refl, ap, ◌∙◌, add-one, arith}
-use Rattle.std.specs.Ordering.{ordering_reverse, is_lt}
-use Rattle.std.specs.Cmp.{IsTotalOrder}
-use Rattle.std.specs.List.{AllWithin}
-use Rattle.std.specs.List.Sorted.{IsSortedBy, IsSearchInRange, IsBinarySearchResult}
-use Rattle.std.proofs.lemmas.List.Sorted.{searchable_from_sorted}
+use Rattle.std.proofs.Common.{◌≡◌, ℕ, zero, suc, ◌<◌, true, false, List, [], ◌∷◌, length, get_or, take, drop, Ordering, Less, Equal, Greater, sym, refl, ap, ◌∙◌, inl, inr, arith}
+use Rattle.std.specs.Ordering.{ordering_reverse, is_eq, is_lt}
 use Rattle.std.proofs.lemmas.Bool.{and_parts, and_from}
-use Rattle.std.specs.Fn.{Called, ComputesKey}
-use Rattle.std.proofs.lemmas.Fn.{always_returns_same}
-use denote.Param.Members.{Mut}
-use denote.Ref.{Bor}
-use Rattle.order.specs.Orders.{Order, below, above, sorted, Located}
+use Rattle.order.specs.Orders.{Order, Total, below, above, sorted}
 
 pub lt_is : (r : Ordering) → is_lt r ≡ true → r ≡ Less
 lt_is Less h = refl
 lt_is Equal h = cc
 lt_is Greater h = cc
+
+pub eq_is : (r : Ordering) → is_eq r ≡ true → r ≡ Equal
+eq_is Less h = cc
+eq_is Equal h = refl
+eq_is Greater h = cc
+
+pub gt_is : (r : Ordering) → is_eq r ≡ false → is_lt r ≡ false → r ≡ Greater
+gt_is Less e l = cc
+gt_is Equal e l = cc
+gt_is Greater e l = refl
 
 -- cases on an answer, with the equation kept
 pub by_answer : {G : Type 0} (r : Ordering) → (r ≡ Less → G) → (r ≡ Equal → G) → (r ≡ Greater → G) → G
@@ -24,10 +26,6 @@ by_answer Equal a b c = b refl
 by_answer Greater a b c = c refl
 
 module _ {K : Type 0} (o : Order K) where
-  -- as the library says it
-  std_total : IsTotalOrder o.rank
-  std_total = record { antisymm = o.flip; trans = o.trans; congr = λ x y z e. ap (λ w. o.rank w z) (o.same x y e) }
-
   pub flip_less : (x y : K) → o.rank x y ≡ Less → o.rank y x ≡ Greater
   flip_less x y h = o.flip y x ∙ ap ordering_reverse h
 
@@ -36,6 +34,15 @@ module _ {K : Type 0} (o : Order K) where
 
   pub flip_equal : (x y : K) → o.rank x y ≡ Equal → o.rank y x ≡ Equal
   flip_equal x y h = o.flip y x ∙ ap ordering_reverse h
+
+  -- the order is total
+  pub total : Total o
+  total = record {
+    some = λ x y. by_answer (o.rank x y) (λ h. inl h) (λ h. inr (inl (o.same x y h))) (λ h. inr (inr (flip_greater x y h)));
+    not_before_and_same = λ x y h e. let s = sym h ∙ ap (λ z. o.rank z y) e ∙ o.self y in let z : ◌≡◌ {A = ℕ} 0 1 = cc in omega arith;
+    not_before_and_after = λ x y h b. let s = sym b ∙ flip_less x y h in let z : ◌≡◌ {A = ℕ} 0 1 = cc in omega arith;
+    transitive = λ x y z a b. o.trans x y z a b;
+  }
 
   apart : (q k : K) (r : Ordering) → o.rank q k ≡ r → (r ≡ Equal → ◌≡◌ {A = ℕ} 0 1) → q ≡ k → ⊥
   apart q k r h n s = let z = n (sym h ∙ ap (λ x. o.rank x k) s ∙ o.self k) in omega arith
@@ -57,43 +64,18 @@ module _ {K : Type 0} (o : Order K) where
     below_at k (x ∷ xs) zero d l h = lt_is _ (and_parts (is_lt (o.rank k (key x))) (below o key k xs) h).0
     below_at k (x ∷ xs) (suc m) d l h = below_at k xs m d (omega arith) (and_parts (is_lt (o.rank k (key x))) (below o key k xs) h).1
 
-    -- neighbours in sorted rows rise
-    rising : (xs : List X) → sorted o key xs ≡ true → IsSortedBy (λ x y. is_lt (o.rank (key x) (key y))) xs
-    rising [] s i d z l = absurd (omega arith)
-    rising (x ∷ xs) s zero d z l =
+    pub front : (k : K) (xs : List X) (m : ℕ) (d : X) → m < length xs → sorted o key xs ≡ true → o.rank (key (get_or xs m d)) k ≡ Less → above o key k (take (suc m) xs) ≡ true
+    front k [] m d l s h = absurd (omega arith)
+    front k (x ∷ xs) zero d l s h = and_from _ _ (ap is_lt h) refl
+    front k (x ∷ xs) (suc m) d l s h =
         let p = and_parts (below o key (key x) xs) (sorted o key xs) s in
-        ap is_lt (flip_less (key x) (key (get_or xs 0 d)) (below_at (key x) xs 0 d (omega arith) p.0))
-    rising (x ∷ xs) s (suc i) d z l =
-        let h = rising xs (and_parts (below o key (key x) xs) (sorted o key xs) s).1 i d (omega arith) (omega arith) in
-        rw add-one (rw add-one at h)
+        let n : m < length xs = omega arith in
+        and_from _ _ (ap is_lt (o.trans (key x) (key (get_or xs m d)) k (below_at (key x) xs m d n p.0) h)) (front k xs m d n p.1 h)
 
-    above_from : (k : K) (xs : List X) (i : ℕ) → i ≤ length xs → AllWithin (λ x. o.rank (key x) k ≡ Less) xs 0 i → above o key k (take i xs) ≡ true
-    above_from k xs zero l h = refl
-    above_from k [] (suc i) l h = refl
-    above_from k (x ∷ xs) (suc i) l h =
-        and_from _ _ (ap is_lt (h 0 x (omega arith) (omega arith))) (above_from k xs i (omega arith) (λ j d _ m. h (suc j) d (omega arith) (omega arith)))
-
-    below_all : (k : K) (xs : List X) → AllWithin (λ x. o.rank (key x) k ≡ Greater) xs 0 (length xs) → below o key k xs ≡ true
-    below_all k [] h = refl
-    below_all k (x ∷ xs) h =
-        and_from _ _ (ap is_lt (flip_greater (key x) k (h 0 x (omega arith) (omega arith)))) (below_all k xs (λ j d _ m. h (suc j) d (omega arith) (omega arith)))
-
-    below_from : (k : K) (xs : List X) (i : ℕ) → AllWithin (λ x. o.rank (key x) k ≡ Greater) xs i (length xs) → below o key k (drop i xs) ≡ true
-    below_from k xs zero h = below_all k xs h
-    below_from k [] (suc i) h = refl
-    below_from k (x ∷ xs) (suc i) h = below_from k xs i (λ j d l m. h (suc j) d (omega arith) (omega arith))
-
-    located : (k : K) (xs : List X) (r : Result ℕ ℕ) → IsSearchInRange r (length xs) → IsBinarySearchResult (λ x. o.rank (key x) k) xs r → Located o key xs k r
-    located k xs (Ok i) b h = (b, λ d. o.same _ k (h d))
-    located k xs (Err i) b h = (
-      b,
-      λ s.
-          let p = h (searchable_from_sorted std_total key xs k (rising xs s)) in
-          (above_from k xs i b p.0, below_from k xs i p.1),
-    )
-
-    -- from the clauses of `binary_search_by`, where each call ranks the key of a row by k
-    pub located_from_clauses : {F : Type 0} {g : Mut F (Bor X × Unit {0}) Ordering} {f : F} (k : K) (xs : List X) (r : Result ℕ ℕ) → IsSearchInRange r (length xs)
-        → ((rank : X → Ordering) → ComputesKey g rank f → IsBinarySearchResult rank xs r)
-        → ((a : Bor X × Unit {0}) (q : Ordering) (f' : F) → Called g f a q f' → (q ≡ o.rank (key a.0.now) k) × (f' ≡ f)) → Located o key xs k r
-    located_from_clauses k xs r b h each = located k xs r b (h _ (always_returns_same _ _ _ each))
+    pub back : (k : K) (xs : List X) (m : ℕ) (d : X) → m < length xs → sorted o key xs ≡ true → o.rank (key (get_or xs m d)) k ≡ Greater → below o key k (drop m xs) ≡ true
+    back k [] m d l s h = absurd (omega arith)
+    back k (x ∷ xs) zero d l s h =
+        let p = and_parts (below o key (key x) xs) (sorted o key xs) s in
+        let b = flip_greater (key x) k h in
+        and_from _ _ (ap is_lt b) (below_trans k (key x) xs b p.0)
+    back k (x ∷ xs) (suc m) d l s h = back k xs m d (omega arith) (and_parts (below o key (key x) xs) (sorted o key xs) s).1 h

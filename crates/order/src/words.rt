@@ -3,7 +3,8 @@ ghost use Rattle.std.specs.Prelude.{ℕ, List};
 ghost use Rattle.std.proofs.Common.{rules};
 ghost use Rattle.order.specs.Made.{bytes_order};
 
-use super::{Ordered, Row};
+use super::{Ordered, Ranked, Row};
+use std::cmp::Ordering;
 
 #[derive(Clone, Copy, PartialEq, Eq, PartialOrd, Ord, Debug)]
 pub struct Word<'a> {
@@ -17,6 +18,12 @@ impl<'a> Ordered for Word<'a> {
 
     ghost order = { bytes_order };
 
+    fn compare(&self, other: &Word<'a>) -> Ordering {
+        self.cmp(other)
+    }
+}
+
+impl<'a> Ranked for Word<'a> {
     ghost ranks = { Prim.search rules };
 }
 

@@ -2,10 +2,8 @@
 ghost use Rattle.std.specs.Prelude.{◌≡◌, ◌*◌, ◌<◌, ◌≤◌, true, [], length, MatchOption, nat_le};
 ghost use Rattle.refusals.specs.Refusals.{answered, meant};
 ghost use Rattle.refusals.specs.declared.Refusal.TheVariants.{OutOfRange};
-ghost use Rattle.std.proofs.Common.{rules};
 ghost use Rattle.std.proofs.Props.{props};
-ghost use Rattle.std.proofs.lemmas.Grind.{common_steps};
-ghost use Rattle.papers.specs.Rows.{Wide, written, row_of};
+ghost use Rattle.papers.specs.Rows.{Wide, written, row_of, short};
 
 use printer::{MOST_BYTES, Printer};
 use refusals::Refusal;
@@ -58,7 +56,7 @@ impl<const ROWS: usize> Printer for Board<ROWS> {
 
     ghost settled = { λ _. true };
 
-    ghost within = { λ s. Prim.search (rules, common_steps) };
+    ghost within = { λ s. short (32 * ROWS) s.rows s.within };
 
     ghost lawful = { λ s. s.lawful };
 

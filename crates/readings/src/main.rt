@@ -12,6 +12,9 @@ use std::fmt;
 use std::io::Read;
 use tokens::byte::digit_value;
 
+#[cfg(test)]
+mod tests;
+
 // Why a line of the table cannot be read.
 #[derive(Clone, Copy, PartialEq, Eq, Debug)]
 enum Trouble {
@@ -154,8 +157,12 @@ fn judge(heap: Global, line: &[u8], times: Option<u64>) -> Result<Option<Vec<u8>
     Ok(Some(message))
 }
 
-// How often a `@repeat` line says: a number from 1 to 10,000.
+// How often a `@repeat` line says: a number from 1 to 10,000, in digits alone.
 fn times_of(digits: &[u8]) -> Option<u64> {
+    // which `parse` would pass over
+    if digits.starts_with(b"+") {
+        return None;
+    }
     let n = str::from_utf8(digits).ok()?.parse().ok()?;
     Some(n).filter(|n| (1..=10_000).contains(n))
 }

@@ -1,5 +1,5 @@
-// What a stack can do.
-ghost use Rattle.std.specs.Prelude.{◌≡◌, [], ◌∷◌, length, nat_lt};
+// What a stack can do. Each call also tells that a stack has no more elements than find room.
+ghost use Rattle.std.specs.Prelude.{◌≡◌, ◌≤◌, [], ◌∷◌, length, nat_lt};
 ghost use Rattle.arrays.specs.Items.{Allowed};
 ghost use Rattle.stacks.specs.Stacked.{top, rest};
 
@@ -17,7 +17,8 @@ impl<'a, T: Copy> Stack<'a, T> {
 
     // Puts an element on top where there is room; else nothing changes.
     pub fn push(&mut self, x: T) -> Result<(), CapacityError>
-        ensures { Allowed (nat_lt (length self.old.items) self.old.capacity) self.old (record self.old { items = x ∷ self.old.items }) self.new result }
+        ensures pushed { Allowed (nat_lt (length self.old.items) self.old.capacity) self.old (record self.old { items = x ∷ self.old.items }) self.new result }
+        ensures within { length self.old.items ≤ self.old.capacity }
     {
         if self.len < self.slots.len() {
             self.slots[self.len] = x;
@@ -32,6 +33,7 @@ impl<'a, T: Copy> Stack<'a, T> {
     pub fn pop(&mut self) -> Option<T>
         ensures answer { result ≡ top self.old.items }
         ensures after { self.new ≡ record self.old { items = rest self.old.items } }
+        ensures within { length self.old.items ≤ self.old.capacity }
     {
         self.len = self.len.checked_sub(1)?;
         Some(self.slots[self.len])
@@ -39,7 +41,8 @@ impl<'a, T: Copy> Stack<'a, T> {
 
     // The top element, which stays.
     pub fn peek(&self) -> Option<T>
-        ensures { result ≡ top self.now.items }
+        ensures answer { result ≡ top self.now.items }
+        ensures within { length self.now.items ≤ self.now.capacity }
     {
         self.slots[..self.len].last().copied()
     }

@@ -14,7 +14,8 @@ impl<'a, T: Copy> Stack<'a, T> {
 
     // How many find room on it.
     pub fn capacity(&self) -> usize
-        ensures { result ≡ self.now.capacity }
+        ensures value { result ≡ self.now.capacity }
+        ensures within { length self.now.items ≤ self.now.capacity }
     {
         self.slots.len()
     }

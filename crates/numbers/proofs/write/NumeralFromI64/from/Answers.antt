@@ -19,6 +19,6 @@ returns c =
     let long = length-decimal-le 19 c.unsigned_abs.result (omega arith) (omega arith) (omega arith) in
     let at : d.result - 1 + 1 ≡ d.result = omega arith in
     elim c.if-n-lt0.branch [
-      | then-n-lt0 w ↦ rw (w.bytes-is, w.start-is, drop-set d.new.buf (d.result - 1) 45 (omega arith), at, d.ensures.written, append-nil, c.unsigned_abs.ensures.value, is) (sym (signed_below c.args.n (rw is at w.if-n-lt0.true)))
+      | then-n-lt0 w ↦ rw (w.bytes-is, w.start-is, drop-set d.new.buf (d.result - 1) _ (omega arith), at, d.ensures.written, append-nil, c.unsigned_abs.ensures.value, is) (sym (signed_below c.args.n (rw is at w.if-n-lt0.true)))
       | else-n-lt0 w ↦ rw (w.bytes-is, w.start-is, d.ensures.written, append-nil, c.unsigned_abs.ensures.value, is) (sym (signed_above c.args.n (rw is at w.if-n-lt0.false)))
     ]

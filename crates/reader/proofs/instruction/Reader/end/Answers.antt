@@ -10,14 +10,14 @@ use Rattle.reader.proofs.instruction.Reader.end.Goals as goal
 pub returns-in_err-complete : goal.returns-in_err-complete
 returns-in_err-complete c =
     let r = c.args.self.now in
-    fails_by End r _ _ _ c.from_residual-in_err-complete.ensures.1 (bare_fails End (Item.end r.«from» r.cursor.pos) r _ (λ ts. refl) c.requires.word (block_there r _ (sym c.peek.ensures ∙ c.in_ok-block.ensures.ok_part)) c.in_err-complete.ensures)
+    fails_by End r _ _ _ c.from_residual-in_err-complete.ensures.1 (bare_fails End (Item.end r.«from» r.cursor.pos) r _ (λ ts. refl) c.requires.word (block_there r _ (sym c.peek.ensures.answer ∙ c.in_ok-block.ensures.ok_part)) c.in_err-complete.ensures)
 
 pub returns : goal.returns
 returns c =
     let r = c.args.self.now in
     let m = c.complete.new.self in
     let arm = c.close_arm.ensures in
-    end_done r _ c.in_ok-block.block m c.requires.entered c.requires.word (sym c.peek.ensures ∙ c.in_ok-block.ensures.ok_part) c.in_ok-complete.ensures
+    end_done r _ c.in_ok-block.block m c.requires.entered c.requires.word (sym c.peek.ensures.answer ∙ c.in_ok-block.ensures.ok_part) c.in_ok-complete.ensures
     (record {
       text = c.push.ensures.text ∙ arm.text;
       state = c.push.ensures.state ∙ arm.state;
