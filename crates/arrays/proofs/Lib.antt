@@ -1,3 +1,3 @@
-pub mod Shifts
 pub mod Exchange
 pub mod Made
+pub mod Turned

@@ -84,12 +84,11 @@ impl<T: Copy, const N: usize> ArrayVec<T, N> {
         if self.len == N {
             return Err(InsertError::Full);
         }
-        // by a loop: the library's copy moves each element twice
-        for i in (at..self.len).rev() {
-            self.slots[i + 1] = self.slots[i];
-        }
-        self.slots[at] = x;
+        self.slots[self.len] = x;
         self.len += 1;
+        let end = self.len;
+        let slots = &mut self.slots[..];
+        slots[at..end].rotate_right(1);
         Ok(())
     }
 
@@ -98,10 +97,10 @@ impl<T: Copy, const N: usize> ArrayVec<T, N> {
         ensures { Exchanged at (items self.old) (remove (items self.old) at) (items self.new) result }
     {
         let x = *self.as_slice().get(at)?;
+        let end = self.len;
+        let slots = &mut self.slots[..];
+        slots[at..end].rotate_left(1);
         self.len -= 1;
-        for i in at..self.len {
-            self.slots[i] = self.slots[i + 1];
-        }
         Some(x)
     }
 

@@ -15,6 +15,6 @@ written len rows = take len (concat rows)
 abbrev pub row_of : List ℕ → ℕ → List ℕ
 row_of bytes at = take 32 (drop (32 * at) bytes)
 
--- as many bytes are written as are counted, and no more
+-- no more bytes are written than are counted
 pub short : {len : ℕ} (n : ℕ) (rows : List (List ℕ)) → len ≤ n → length (written len rows) ≤ n
 short {len} n rows h = rw length-take (omega arith)

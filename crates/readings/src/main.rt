@@ -159,7 +159,7 @@ fn judge(heap: Global, line: &[u8], times: Option<u64>) -> Result<Option<Vec<u8>
 
 // How often a `@repeat` line says: a number from 1 to 10,000, in digits alone.
 fn times_of(digits: &[u8]) -> Option<u64> {
-    // which `parse` would pass over
+    // `parse` would take it
     if digits.starts_with(b"+") {
         return None;
     }

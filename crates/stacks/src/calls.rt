@@ -1,4 +1,4 @@
-// What a stack can do. Each call also tells that a stack has no more elements than find room.
+// What a stack can do. Each call on one also tells that it has no more elements than find room.
 ghost use Rattle.std.specs.Prelude.{◌≡◌, ◌≤◌, [], ◌∷◌, length, nat_lt};
 ghost use Rattle.arrays.specs.Items.{Allowed};
 ghost use Rattle.stacks.specs.Stacked.{top, rest};
