@@ -11,7 +11,7 @@ ltb_both : (m n : ℕ) → ltb m n ≡ ltb (1 + m) (suc n)
 ltb_both m n = grind (arith, nat_tests)
 
 -- a list has an element that passes where its first is within
-has_position : (p : ℕ → Bool) (xs : List ℕ) → list_any p xs ≡ ltb (position_or_len p xs) (length xs)
+pub has_position : (p : ℕ → Bool) (xs : List ℕ) → list_any p xs ≡ ltb (position_or_len p xs) (length xs)
 has_position p [] = refl
 has_position p (x ∷ xs) = by (p x) refl (has_position p xs)
   where

@@ -1,8 +1,9 @@
 -- Keys and values, by where the bytes are cut. Assumes nothing.
-use Rattle.std.proofs.Common.{◌≡◌, ℕ, ◌+◌, ◌<◌, Bool, true, false, cond, ◌&&◌, ltb, List, [], ◌∷◌, ◌++◌, length, get_or, drop, Some, None, Ok, Err, Result, sym, refl, ap, ◌∙◌}
+use Rattle.std.proofs.Common.{◌≡◌, ℕ, Bool, true, false, cond, ◌&&◌, ltb, List, [], ◌∷◌, ◌++◌, length, eqb, Some, None, Ok, Err, Result, sym, refl, ap, ◌∙◌}
 use Rattle.std.specs.Result.{MatchResult}
-use Rattle.std.proofs.lemmas.List.{at_drop_more}
-use Rattle.std.proofs.lemmas.Bool.{cond-true, cond-false}
+use Rattle.std.proofs.lemmas.List.Splits.{slice_split_first, slice_split_none}
+use Rattle.std.proofs.lemmas.List.Folds.{list_any_at}
+use Rattle.std.proofs.lemmas.Bool.{both_ways, cond-true, cond-false, false_from_ne_true, ltb-true}
 use Rattle.refusals.specs.Refusals.{answered, Guarded}
 use Rattle.refusals.specs.declared.Refusal.{Refusal}
 use Rattle.refusals.proofs.Answered.{answered_ok, answered_err}
@@ -10,6 +11,7 @@ use Rattle.refusals.specs.declared.Refusal.TheVariants.{BadName, BadValue}
 use Rattle.keys.specs.NameBytes.{lawful_name}
 use Rattle.values.specs.Forms.{Elem}
 use Rattle.cards.specs.Cuts.{before, NotThere, Parts}
+use Rattle.cards.proofs.Cutting.{has_position}
 use Rattle.cards.specs.Lines.{is_empty, number, subscripts, key_in, lawful_piece, element, pieces, elements_in, value_in}
 
 -- ---- keys
@@ -47,6 +49,11 @@ module _ (es after : List Elem) (p : List ℕ) (ps : List (List ℕ)) (r : Resul
 pub value_some : (bs : List ℕ) → is_empty bs ≡ false → value_in bs ≡ elements_in [] (pieces bs)
 value_some bs h = cond-false _ _ _ h
 
--- the piece at place n, and those behind it
-pub piece_next : (ps : List (List ℕ)) (n : ℕ) (p : List ℕ) → (n < length ps) × (p ≡ get_or ps n p) → drop n ps ≡ p ∷ drop (n + 1) ps
-piece_next ps n p h = at_drop_more (λ t. t) ps n p h.0 ∙ ap (λ x. x ∷ drop (n + 1) ps) (sym h.1)
+-- the bytes up to the first comma, and those behind it
+pub pieces_first : (bs x y : List ℕ) → Parts 44 bs x y → pieces bs ≡ x ∷ pieces y
+pieces_first bs x y c =
+    slice_split_first (λ b. eqb b 44) bs 0 (ltb-true _ _ (sym (has_position _ bs) ∙ c.some)) ∙ (λ j. sym c.front j ∷ pieces (sym c.back j))
+
+-- with no comma the bytes are the one piece
+pub pieces_last : (bs : List ℕ) → NotThere 44 bs → pieces bs ≡ bs ∷ []
+pieces_last bs c = slice_split_none (λ b. eqb b 44) bs (λ i d l. false_from_ne_true _ (λ e. both_ways _ c.none (list_any_at (λ b. eqb b 44) bs i d l e)))

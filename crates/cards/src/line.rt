@@ -89,8 +89,11 @@ pub(crate) fn read_value(bytes: &[u8]) -> Result<Value, Refusal>
     if bytes.is_empty() {
         return Ok(value);
     }
-    for piece in bytes.split(|b| *b == b',') {
+    let mut rest = bytes;
+    while let Some((piece, behind)) = split_once(rest, b',') {
         add(&mut value, piece)?;
+        rest = behind;
     }
+    add(&mut value, rest)?;
     Ok(value)
 }
